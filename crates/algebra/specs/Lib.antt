@@ -1,0 +1,3 @@
+-- What later statements are written in.
+pub mod Fraction
+pub mod Rounding

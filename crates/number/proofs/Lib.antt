@@ -1,0 +1,5 @@
+-- The laws of the three functions: what callers use, and never a definition's text.
+pub mod NearLaws
+pub mod RootLaws
+pub mod WholeLaws
+pub mod Cases

@@ -1,0 +1,100 @@
+"""Writes the vectors of docs/VECTORS.md: make_vectors.py OUTDIR.
+
+OUTDIR/stdin and OUTDIR/stdout, and beside this folder docs/VECTORS-COUNT.md
+with the count of vectors per kind and of calls per refusal number.
+"""
+
+import os
+import sys
+
+import gen_calls
+import gen_catalogue
+import gen_numbers
+import gen_records
+import gen_tides
+import replay
+import wire
+from chance import Chance
+
+SEED = 36
+MOST = 3_000_000  # bytes of stdin
+
+# Every number that each call can give; "own" are those after its card's check.
+CARD = (2, 3, 4, 5, 6, 7, 8, 9)
+CAN_GIVE = {
+    "tide of a pair": (0, 10, 11, 17), "series": (0, 6, 10, 11, 16),
+    "read": (0, 1, *CARD), "write": (0, 1, *CARD), "export": (0, 1, *CARD, 12),
+    "expand": (0, 1, 2, 3, 4, 5, 6, 7, 8), "metres": (0, *CARD),
+    "lookup": (0, 2, 14, 15), "reader": (0, 1, *CARD, "done"), "list line": (0, 1, *CARD),
+}
+OWN = {"move": (0, 13, 5, 8), "frame": (0, 3, 7, 8), "mean on": (0, 12, 8),
+       "mean off": (0, 12, 8), "solid on": (0, 12, 17, 10, 11, 8), "solid off": (0, 12, 8)}
+
+
+def make():
+    data = bytearray()
+    for place, source in enumerate((gen_numbers, gen_tides, gen_records, gen_calls,
+                                    gen_catalogue)):
+        for kind, payload in source.payloads(Chance(SEED + place)):
+            data += wire.vector(kind, payload)
+    return bytes(data)
+
+
+def check_counts(found):
+    """Fails unless every number that can be given was given, and no other."""
+    wanted = {(n, k, False) for n, ks in CAN_GIVE.items() for k in ks}
+    for name, own in OWN.items():
+        wanted |= {(name, k, False) for k in own} | {(name, k, True) for k in CARD}
+    wanted |= {(wire.NAMES[k], 0, False) for k in (wire.NEAR, wire.ROOT, wire.WHOLE,
+                                                   wire.PERMANENT, wire.ROWS)}
+    missing, extra = wanted - set(found), set(found) - wanted
+    assert not missing and not extra, (missing, extra)
+
+
+def count_page(kinds, found):
+    lines = ["# Counts of the vectors", "",
+             "Written by second/make_vectors.py. A vector of kind `calls` holds many calls.", "",
+             "| Kind | Vectors |", "|---|---|"]
+    lines += [f"| {wire.NAMES[k]} | {n} |" for k, n in sorted(kinds.items())]
+    lines += [f"| all | {sum(kinds.values())} |", "",
+              "`card` counts refusals by the check of the card handed in, `own` those by the",
+              "call's own checks. Number 0 is accepted.", "",
+              "| Call | Number | Given | By |", "|---|---|---|---|"]
+    order = list(wire.NAMES.values()) + list(wire.CALL_NAMES.values())
+
+    def place(key):
+        name, number, by_card = key
+        return order.index(name), by_card, 99 if number == "done" else number
+
+    for key in sorted(found, key=place):
+        name, number, by_card = key
+        by = "card" if by_card else ("" if number == 0 else "own" if name in OWN else "")
+        lines.append(f"| {name} | {number} | {found[key]} | {by} |")
+    return "\n".join(lines) + "\n"
+
+
+def save(path, data):
+    with open(path, "wb") as out:
+        out.write(data)
+
+
+def main(outdir):
+    data, counts, kinds, lines = make(), replay.Counts(), {}, []
+    for kind, line in replay.answers(data, counts):
+        kinds[kind] = kinds.get(kind, 0) + 1
+        lines.append(line + "\n")
+    assert len(lines) >= 3_000 and len(data) < MOST, (len(lines), len(data))
+    check_counts(counts.found)
+    os.makedirs(outdir, exist_ok=True)
+    save(os.path.join(outdir, "stdin"), data)
+    save(os.path.join(outdir, "stdout"), "".join(lines).encode("ascii"))
+    docs = os.path.join(os.path.dirname(os.path.abspath(__file__)), "..", "docs")
+    os.makedirs(docs, exist_ok=True)
+    save(os.path.join(docs, "VECTORS-COUNT.md"), count_page(kinds, counts.found).encode("ascii"))
+    print(f"{len(lines)} vectors, {len(data)} bytes of stdin")
+
+
+if __name__ == "__main__":
+    if len(sys.argv) != 2:
+        sys.exit("usage: make_vectors.py OUTDIR")
+    main(sys.argv[1])

@@ -1,0 +1,21 @@
+"""The mark: its accepted length and its unit vector scaled by E."""
+
+from rounding import E, near, root
+
+L_LEAST, L_MOST = 6_300_000, 6_400_000  # whole metres, both included
+
+
+def length(mark):
+    """L, the root of x*x + y*y + z*z, whole metres."""
+    return root(sum(m * m for m in mark))
+
+
+def good_mark(mark):
+    """Refusal 6 when this is false."""
+    return L_LEAST <= length(mark) <= L_MOST
+
+
+def unit(mark):
+    """u = near(m E / L) for each component."""
+    size = length(mark)
+    return tuple(near(m * E, size) for m in mark)

@@ -1,0 +1,58 @@
+"""Random marks, body vectors and cards that are accepted, from a given generator."""
+
+from bodies import MOON, RANGE, SUN, distance
+from card import (EPOCH_MOST, POSITION_MOST, SOLID, TIDE_MOST, VELOCITY_MOST, Card,
+                  check)
+from mark import L_LEAST, L_MOST, length
+from rounding import root
+from units import METRE, ZERO, plus, times
+
+
+def of_length(rng, least, most, size):
+    """A whole vector with least <= size(vector) <= most."""
+    while True:
+        raw = [rng.randint(-1_000_000, 1_000_000) for _ in range(3)]
+        for i in range(3):
+            if rng.randrange(8) == 0:
+                raw[i] = 0
+        norm = root(sum(v * v for v in raw))
+        if norm == 0:
+            continue
+        wanted = rng.choice((least, most, rng.randint(least, most)))
+        vector = tuple(v * wanted // norm for v in raw)
+        if least <= size(vector) <= most:
+            return vector
+
+
+def mark(rng):
+    return of_length(rng, L_LEAST, L_MOST, length)
+
+
+def moon(rng):
+    return of_length(rng, *RANGE[MOON], distance)
+
+
+def sun(rng):
+    return of_length(rng, *RANGE[SUN], distance)
+
+
+def within(rng, most):
+    """Three numbers within +-most, now and then at an edge or zero."""
+    return tuple(rng.choice((rng.randint(-most, most),) * 6 + (most, -most, 0))
+                 for _ in range(3))
+
+
+def site(rng):
+    return b"%05d%c%03d" % (rng.randrange(100_000), rng.choice(b"MS"), rng.randrange(1_000))
+
+
+def card(rng, tide=None, most=POSITION_MOST):
+    """An accepted card; most bounds its distance from the mark."""
+    tide = rng.randrange(3) if tide is None else tide
+    where = mark(rng)
+    found = Card(site(rng), rng.randrange(3), tide, rng.randint(-EPOCH_MOST, EPOCH_MOST),
+                 where, within(rng, VELOCITY_MOST),
+                 plus(times(where, METRE), within(rng, most)),
+                 within(rng, TIDE_MOST) if tide == SOLID else ZERO)
+    assert check(found) == 0
+    return found
