@@ -32,11 +32,11 @@ sfits-abs {z} h k = record { sfits = lt-of-le-of-lt (mag-le z) (lt-of-le-of-lt h
 
 -- ---- where a chain starts
 
-pub plain : {z : ℤ} {n : ℕ} → natAbs z ≤ n → Va z z n
-plain h = record { told = refl; small = h }
+pub plain : (z : ℤ) {n : ℕ} → natAbs z ≤ n → Va z z n
+plain z h = record { told = refl; small = h }
 
 pub lit : (k : ℕ) → Va (pos k) (pos k) k
-lit k = plain (le-refl k)
+lit k = plain (pos k) (le-refl k)
 
 -- a parameter or a field, of which a bound is known
 pub given : {z : ℤ} {n : ℕ} → SFits w64 z → natAbs z ≤ n → Va (toZ w64 (ofZ w64 z)) z n
@@ -45,6 +45,10 @@ given f h = record { told = toZ-ofZ f; small = h }
 -- a natural as an i64
 pub ofU : {m n : ℕ} → m ≤ n → n < 2 ^ 63 → Va (toZ w64 m) (pos m) n
 ofU {m} h k = record { told = toZ-pos w64 (lt-of-le-of-lt h k); small = h }
+
+-- what a call answered, read back; its `.ok` is the second argument
+pub answered : (r : ℤ) → mag r < 2 ^ 63 → toZ w64 (ofZ w64 r) ≡ r
+answered r h = toZ-ofZ (record { sfits = h })
 
 -- ---- how it goes on
 

@@ -1,0 +1,2 @@
+-- Numbers in byte slices.
+pub mod Octets
