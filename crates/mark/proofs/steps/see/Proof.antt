@@ -1,0 +1,83 @@
+-- `mark::steps::see` meets its contract. Assumes nothing.
+use mathlib.Core.Path.{_≡_, sym, ap, _∙_}
+use mathlib.Core.Bool.{true, false, not}
+use Prim.Native.Nat.{ℕ, _^_, _<_}
+use borrow.Author.Needs.{needs}
+use borrow.Author.Tests.{not-true, not-false}
+use Rattle.mark.specs.declared.Vec3.{Vec3}
+use Rattle.mark.specs.declared.BodyVector.{BodyVector}
+use Rattle.mark.specs.declared.steps.Seen.{Seen}
+use Rattle.mark.specs.declared.steps.Placed.{Placed}
+use Rattle.mark.specs.Refusal.{first}
+use Rattle.mark.specs.Mark.{nowhere, each, lengthOf, lengthWithin}
+use Rattle.mark.specs.Bodies.{wholes, finite, clipped, placedOf, seenOf}
+use Rattle.mark.proofs.LengthLaws.{length-is}
+use Rattle.mark.proofs.BodyLaws.{clipped-out, clipped-in}
+use Rattle.mark.proofs.steps.see.Statement.{statement}
+use Rattle.mark.proofs.steps.see.Tie as tie
+
+abbrev seen : ℕ → Vec3 → ℕ → Seen
+seen n w r = record { number = n; at = w; r = r }
+
+module _ (low high : ℕ) (v : BodyVector) (p : Placed) (e : p ≡ placedOf v) where
+  is-finite : p .finite ≡ finite v
+  unfolding placedOf
+  is-finite = ap (λ (q : Placed). q .finite) e
+
+  is-at : p .at ≡ each clipped (wholes v)
+  unfolding placedOf
+  is-at = ap (λ (q : Placed). q .at) e
+
+  not-finite : not (p .finite) ≡ true → seen 10 nowhere 0 ≡ seenOf low high v
+  unfolding seenOf first
+  not-finite h = rw (sym is-finite ∙ not-true (p .finite) h)
+
+  out-of-reach : high < 2 ^ 30 → 0 < low → not (p .finite) ≡ false → lengthWithin low high (p .at) ≡ 0 → seen 11 nowhere 0 ≡ seenOf low high v
+  unfolding seenOf first
+  out-of-reach h l f r =
+      rw (sym is-finite ∙ not-false (p .finite) f, clipped-out low high (wholes v) h l (sym (ap (lengthWithin low high) is-at) ∙ r))
+
+  in-reach : high < 2 ^ 30 → not (p .finite) ≡ false → (r : ℕ) → r ≡ lengthWithin low high (p .at) → (r ≡ 0 → ⊥) → seen 0 (p .at) r ≡ seenOf low high v
+  unfolding seenOf first
+  in-reach h f r q n =
+      let s : r ≡ lengthWithin low high (each clipped (wholes v)) = q ∙ ap (lengthWithin low high) is-at in
+      let k = clipped-in low high (wholes v) h (λ z. n (s ∙ z)) in
+      let t : r ≡ lengthOf (wholes v) = s ∙ ap (lengthWithin low high) (k .1) ∙ length-is low high (wholes v) (k .0) in
+      let w : p .at ≡ wholes v = is-at ∙ k .1 in
+      rw (sym is-finite ∙ not-false (p .finite) f, k .0, t, w)
+
+wholes-of-requires : tie.Need-wholes-of-requires
+wholes-of-requires c κs = search needs
+
+whole-length-requires : tie.Need-whole-length-requires
+whole-length-requires c κs = search needs
+
+returns : tie.Need-returns
+returns c =
+    let w = c .before .before in
+    let a = w .before .args in
+    not-finite (a .low) (a .high) (a .v) (w .wholes-of .result) (w .wholes-of .ensures) (c .if1 .taken)
+
+returns-2 : tie.Need-returns-2
+returns-2 c =
+    let w = c .before .before .before .before in
+    let a = w .before .args in
+    out-of-reach (a .low) (a .high) (a .v) (w .wholes-of .result) (w .wholes-of .ensures)
+    (w .before .pre .0) (w .before .pre .1)
+    (c .before .before .if1 .left)
+    (sym (c .before .whole-length .ensures) ∙ c .if2 .taken)
+
+returns-3 : tie.Need-returns-3
+returns-3 c =
+    let w = c .before .before .before .before .before in
+    let a = w .before .args in
+    in-reach (a .low) (a .high) (a .v) (w .wholes-of .result) (w .wholes-of .ensures)
+    (w .before .pre .0)
+    (c .before .before .before .if1 .left)
+    (c .before .before .whole-length .result)
+    (c .before .before .whole-length .ensures)
+    (c .before .if2 .left)
+
+pub see-spec : {M : Type 1} → statement M
+see-spec =
+    tie.close (tie.spec wholes-of-requires returns whole-length-requires returns-2 returns-3)

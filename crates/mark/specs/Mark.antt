@@ -1,0 +1,50 @@
+-- The mark: x, y, z in whole metres. The root L of x² + y² + z² is from 6,300,000 to 6,400,000.
+use Prim.Native.Nat.{ℕ, _+_, _*_, _^_}
+use mathlib.Core.Bool.{Bool, not, cond, _&&_}
+use mathlib.Core.List.{[], _∷_}
+use lib.Dec.{leb}
+use lib.IntN.{ℤ, pos, natAbs, _*ℤ_}
+use Rattle.number.specs.Near.{near}
+use Rattle.number.specs.Root.{root}
+use Rattle.mark.specs.declared.Vec3.{Vec3}
+use Rattle.mark.specs.Refusal.{first}
+
+-- E, the unit of every fraction of one
+abbrev pub E : ℕ
+E = 2 ^ 30
+
+-- near(x y/E): the product of two numbers of which one counts in units of 1/E
+unfoldable pub times : ℤ → ℤ → ℤ
+times x y = near (x *ℤ y) E
+
+abbrev pub vec : ℤ → ℤ → ℤ → Vec3
+vec a b c = record { x = a; y = b; z = c }
+
+abbrev pub nowhere : Vec3
+nowhere = vec (pos 0) (pos 0) (pos 0)
+
+-- one rule for three components
+abbrev pub each : (ℤ → ℤ) → Vec3 → Vec3
+each f v = vec (f (v .x)) (f (v .y)) (f (v .z))
+
+-- x² + y² + z²
+unfoldable pub squares : Vec3 → ℕ
+squares v = natAbs (v .x) * natAbs (v .x) + natAbs (v .y) * natAbs (v .y) + natAbs (v .z) * natAbs (v .z)
+
+-- the whole length of a vector: the root of that sum
+unfoldable pub lengthOf : Vec3 → ℕ
+lengthOf v = root (squares v)
+
+abbrev pub between : ℕ → ℕ → ℕ → Bool
+between low high n = leb low n && leb n high
+
+unfoldable pub marked : Vec3 → Bool
+marked m = between 6300000 6400000 (lengthOf m)
+
+-- the whole length where it lies from low to high, else 0
+unfoldable pub lengthWithin : ℕ → ℕ → Vec3 → ℕ
+lengthWithin low high v = cond (between low high (lengthOf v)) (lengthOf v) 0
+
+-- refusal 6: mark
+unfoldable pub markNumber : Vec3 → ℕ
+markNumber m = first ((6, not (marked m)) ∷ [])

@@ -1,0 +1,92 @@
+-- The solid tide of degree two, in grains: the paper's steps for each body, one definition each, and the Moon's plus the Sun's.
+use Prim.Native.Nat.{ℕ, _*_}
+use mathlib.Core.List.{[], _∷_}
+use mathlib.Core.Bool.{Bool, not, cond, _&&_}
+use lib.Dec.{eqb}
+use lib.IntN.{ℤ, pos, _+ℤ_, _-ℤ_, _*ℤ_}
+use Rattle.number.specs.Near.{near}
+use Rattle.mark.specs.declared.Vec3.{Vec3}
+use Rattle.mark.specs.declared.BodyVector.{BodyVector}
+use Rattle.mark.specs.declared.Body.{Body}
+use Rattle.mark.specs.declared.Shift.{Shift}
+use Rattle.mark.specs.Mark.{E, times, vec, nowhere, lengthOf, marked}
+use Rattle.mark.specs.Permanent.{units, legendre}
+use Rattle.mark.specs.Bodies.{Kind, moon, sun, wholes, finite, inReach, paired, moonOf, sunOf}
+use Rattle.mark.specs.Refusal.{first}
+
+-- q = near(R0 E/R)
+unfoldable pub nearness : ℕ → ℕ → ℤ
+nearness r0 r = near (pos r0 *ℤ pos E) r
+
+-- q2 = near(q q/E); q3 = near(q2 q/E); K = near(K0 q3/E)
+unfoldable pub strength : ℕ → ℤ → ℤ
+strength k0 q = times (pos k0) (times (times q q) q)
+
+-- c = near((sum of u d)/E)
+unfoldable pub cosine : Vec3 → Vec3 → ℤ
+cosine u d = near (u .x *ℤ d .x +ℤ u .y *ℤ d .y +ℤ u .z *ℤ d .z) E
+
+-- p = near((3 c2 - E)/2), with c2 = near(c c/E)
+unfoldable pub height : ℤ → ℤ
+height c = legendre (times c c)
+
+-- rho = near(H p/E), with H = near(6,078 K/10,000)
+unfoldable pub upward : ℤ → ℤ → ℤ
+upward k c = times (near (pos 6078 *ℤ k) 10000) (height c)
+
+-- t = 3 near(S c/E), with S = near(847 K/10,000)
+unfoldable pub sideways : ℤ → ℤ → ℤ
+sideways k c = pos 3 *ℤ times (near (pos 847 *ℤ k) 10000) c
+
+-- near((rho u + t(d - near(c u/E)))/E)
+unfoldable pub component : ℤ → ℤ → ℤ → ℤ → ℤ → ℤ
+component rho t c u d = near (rho *ℤ u +ℤ t *ℤ (d -ℤ times c u)) E
+
+-- one body's part, from R0, K0, the mark's unit vector u and the body's whole vector at the distance R. d = near(component x E/R)
+unfoldable pub partOf : ℕ → ℕ → Vec3 → Vec3 → ℕ → Vec3
+partOf r0 k0 u v r =
+    let s = strength k0 (nearness r0 r) in
+    let d = units r v in
+    let c = cosine u d in
+    let rho = upward s c in
+    let t = sideways s c in
+    vec (component rho t c (u .x) (d .x)) (component rho t c (u .y) (d .y)) (component rho t c (u .z) (d .z))
+
+unfoldable pub plus : Vec3 → Vec3 → Vec3
+plus v w = vec (v .x +ℤ w .x) (v .y +ℤ w .y) (v .z +ℤ w .z)
+
+-- the part of a body of a kind, from its doubles
+abbrev pub part : Kind → Vec3 → BodyVector → Vec3
+part k u v = partOf (k .r0) (k .k0) u (wholes v) (lengthOf (wholes v))
+
+-- the Moon's plus the Sun's, at the mark's unit vector
+unfoldable pub tideAt : Vec3 → BodyVector → BodyVector → Vec3
+tideAt u v w = plus (part moon u v) (part sun u w)
+
+unfoldable pub tide : Vec3 → BodyVector → BodyVector → Vec3
+tide m v w = tideAt (units (lengthOf m) m) v w
+
+-- a refusal comes with no shift
+abbrev pub refusedWith : ℕ → Shift
+refusedWith n = record { number = n; shift = nowhere }
+
+-- refusal 10 of both bodies before 11 of either
+unfoldable pub bodiesNumber : BodyVector → BodyVector → ℕ
+bodiesNumber v w = first ((10, not (finite v && finite w)) ∷ (11, not (inReach moon v && inReach sun w)) ∷ [])
+
+-- an answer for two bodies at the mark's unit vector u: 10, 11, or the tide
+unfoldable pub pairAnswer : Vec3 → BodyVector → BodyVector → Shift
+pairAnswer u v w = record { number = bodiesNumber v w; shift = cond (eqb (bodiesNumber v w) 0) (tideAt u v w) nowhere }
+
+-- 6 mark, 17 not one Moon and one Sun, 10, 11
+unfoldable pub tideNumber : Vec3 → Body → Body → ℕ
+tideNumber m a b =
+    first
+    ((6, not (marked m))
+    ∷ (17, not (paired a b))
+    ∷ (10, not (finite (moonOf a b) && finite (sunOf a b)))
+    ∷ (11, not (inReach moon (moonOf a b) && inReach sun (sunOf a b)))
+    ∷ [])
+
+unfoldable pub tideAnswer : Vec3 → Body → Body → Shift
+tideAnswer m a b = record { number = tideNumber m a b; shift = cond (eqb (tideNumber m a b) 0) (tide m (moonOf a b) (sunOf a b)) nowhere }
