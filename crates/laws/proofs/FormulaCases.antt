@@ -1,0 +1,193 @@
+-- The formulas at five marks and five pairs of bodies, to be held against another program: each component of the exact fraction in
+-- billionths of a grain, rounded down.
+--
+-- second/exact.py of the second program gives the same numbers: floor(x * 10**9) for x in permanent(mark), and in tide(mark, moon, sun).
+use mathlib.Core.Path.{_≡_, refl, sym}
+use Prim.Native.Nat.{ℕ, _+_, _*_, _/_, _^_}
+use lib.Dec.{T, leb, ltb, leb→le, ltb→lt, lit<}
+use lib.IntN.{ℤ, pos, negsuc, negℤ}
+use Rattle.algebra.specs.Fraction.{Fraction, whole, ratio, wholly, _+ᶠ_, _-ᶠ_, _*ᶠ_, _·ᶠ_, _/ᶠ_, _÷ᶠ_}
+use Rattle.number.proofs.RootLaws.{root-same}
+use Rattle.mark.specs.declared.Vec3.{Vec3}
+use Rattle.mark.specs.Mark.{vec, squares, lengthOf}
+use Rattle.laws.specs.Formulas.{Vector, dot, P2, radial, north, Re, strengthAt, h2, l2, permanentFormula, solidFormula}
+
+-- ---- the inputs
+
+-- marks, metres
+abbrev pub equator : Vec3
+equator = vec (pos 6378137) (pos 0) (pos 0)
+
+abbrev pub pole : Vec3
+pole = vec (pos 0) (pos 0) (pos 6356752)
+
+abbrev pub east : Vec3
+east = vec (pos 4075578) (pos 931853) (pos 4801570)
+
+abbrev pub west : Vec3
+west = vec (pos 1130000) (negℤ (pos 4830000)) (pos 3994000)
+
+abbrev pub south : Vec3
+south = vec (negℤ (pos 2000000)) (pos 5300000) (negℤ (pos 2900000))
+
+-- Moons, metres
+abbrev pub equator-moon : Vec3
+equator-moon = vec (pos 384400000) (pos 0) (pos 0)
+
+abbrev pub pole-moon : Vec3
+pole-moon = vec (pos 200000000) (negℤ (pos 250000000)) (pos 170000000)
+
+abbrev pub east-moon : Vec3
+east-moon = vec (negℤ (pos 179996232)) (negℤ (pos 312468450)) (negℤ (pos 169288919))
+
+abbrev pub west-moon : Vec3
+west-moon = vec (pos 300396717) (pos 243238281) (pos 120548076)
+
+abbrev pub south-moon : Vec3
+south-moon = vec (pos 0) (pos 0) (pos 350000000)
+
+-- Suns, kilometres
+abbrev pub equator-sun : Vec3
+equator-sun = vec (pos 149597870) (pos 0) (pos 0)
+
+abbrev pub pole-sun : Vec3
+pole-sun = vec (negℤ (pos 100000000)) (pos 90000000) (pos 60000000)
+
+abbrev pub east-sun : Vec3
+east-sun = vec (pos 137859927) (pos 54228128) (pos 23509422)
+
+abbrev pub west-sun : Vec3
+west-sun = vec (negℤ (pos 54537460)) (pos 130244288) (pos 56463429)
+
+abbrev pub south-sun : Vec3
+south-sun = vec (negℤ (pos 1)) (pos 146000000) (negℤ (pos 2))
+
+-- their whole lengths, by what a root is
+is-length : (v : Vec3) (l : ℕ) → T (leb (l * l) (squares v)) → T (ltb (squares v) ((l + 1) * (l + 1))) → lengthOf v ≡ l
+unfolding lengthOf
+is-length v l a b = sym (root-same (squares v) l (record { below = leb→le (l * l) (squares v) a; above = ltb→lt (squares v) ((l + 1) * (l + 1)) b }))
+
+pub marks-lengths :
+    (lengthOf equator ≡ 6378137)
+    × (lengthOf pole ≡ 6356752)
+    × (lengthOf east ≡ 6366612)
+    × (lengthOf west ≡ 6368503)
+    × (lengthOf south ≡ 6363961)
+unfolding squares
+marks-lengths = (
+  is-length equator 6378137 tt tt,
+  is-length pole 6356752 tt tt,
+  is-length east 6366612 tt tt,
+  is-length west 6368503 tt tt,
+  is-length south 6363961 tt tt,
+)
+
+pub moons-lengths :
+    (lengthOf equator-moon ≡ 384400000)
+    × (lengthOf pole-moon ≡ 362491379)
+    × (lengthOf east-moon ≡ 398364046)
+    × (lengthOf west-moon ≡ 404888734)
+    × (lengthOf south-moon ≡ 350000000)
+unfolding squares
+moons-lengths = (
+  is-length equator-moon 384400000 tt tt,
+  is-length pole-moon 362491379 tt tt,
+  is-length east-moon 398364046 tt tt,
+  is-length west-moon 404888734 tt tt,
+  is-length south-moon 350000000 tt tt,
+)
+
+pub suns-lengths :
+    (lengthOf equator-sun ≡ 149597870)
+    × (lengthOf pole-sun ≡ 147309198)
+    × (lengthOf east-sun ≡ 149995807)
+    × (lengthOf west-sun ≡ 152072442)
+    × (lengthOf south-sun ≡ 146000000)
+unfolding squares
+suns-lengths = (
+  is-length equator-sun 149597870 tt tt,
+  is-length pole-sun 147309198 tt tt,
+  is-length east-sun 149995807 tt tt,
+  is-length west-sun 152072442 tt tt,
+  is-length south-sun 146000000 tt tt,
+)
+
+-- ---- rounding down
+
+-- n/d rounded down; of a negative number -(n + 1), one below -(n/d rounded down)
+unfoldable pub down : ℤ → ℕ → ℤ
+down (pos n) d = pos (n / d)
+down (negsuc n) d = negsuc (n / d)
+
+unfoldable pub billionths : Fraction → ℤ
+unfolding _·ᶠ_
+billionths X = down ((pos (10 ^ 9) ·ᶠ X) .num) (X .den)
+
+-- with all that the formulas are made of open
+unfoldable pub floors : Vector → Vec3
+unfolding down billionths dot P2 radial north Re strengthAt h2 l2 whole ratio wholly _+ᶠ_ _-ᶠ_ _*ᶠ_ _·ᶠ_ _/ᶠ_ _÷ᶠ_
+floors v = vec (billionths (v .x)) (billionths (v .y)) (billionths (v .z))
+
+-- ---- the permanent displacement
+
+pub permanent-equator :
+    floors (permanentFormula equator (wholly 6378137 (lit< tt)))
+    ≡ vec (pos 88134825000000000) (pos 0) (pos 0)
+unfolding floors
+permanent-equator = refl
+
+pub permanent-pole :
+    floors (permanentFormula pole (wholly 6356752 (lit< tt)))
+    ≡ vec (pos 0) (pos 0) (negℤ (pos 176050500000000000))
+unfolding floors
+permanent-pole = refl
+
+pub permanent-east :
+    floors (permanentFormula east (wholly 6366612 (lit< tt)))
+    ≡ vec (negℤ (pos 12975823395679392)) (negℤ (pos 2966833160531839)) (negℤ (pos 70898642456082781))
+unfolding floors
+permanent-east = refl
+
+pub permanent-west :
+    floors (permanentFormula west (wholly 6368503 (lit< tt)))
+    ≡ vec (pos 2327962825880175) (negℤ (pos 9950495972567474)) (negℤ (pos 37968009432861044))
+unfolding floors
+permanent-west = refl
+
+pub permanent-south :
+    floors (permanentFormula south (wholly 6363961 (lit< tt)))
+    ≡ vec (negℤ (pos 15242260778136625)) (pos 40391991062062054) (pos 11428156319889521)
+unfolding floors
+permanent-south = refl
+
+-- ---- the tide of degree two
+
+pub solid-equator :
+    floors (solidFormula equator (wholly 6378137 (lit< tt)) equator-moon (wholly 384400000 (lit< tt)) equator-sun (wholly 149597870 (lit< tt)))
+    ≡ vec (pos 464375933153167479) (pos 0) (pos 0)
+unfolding floors
+solid-equator = refl
+
+pub solid-pole :
+    floors (solidFormula pole (wholly 6356752 (lit< tt)) pole-moon (wholly 362491379 (lit< tt)) pole-sun (wholly 147309198 (lit< tt)))
+    ≡ vec (pos 23358133274346784) (negℤ (pos 35390280168565585)) (negℤ (pos 102989949266314740))
+unfolding floors
+solid-pole = refl
+
+pub solid-east :
+    floors (solidFormula east (wholly 6366612 (lit< tt)) east-moon (wholly 398364046 (lit< tt)) east-sun (wholly 149995807 (lit< tt)))
+    ≡ vec (pos 105400462318832819) (pos 90054726341418796) (pos 72245601900954125)
+unfolding floors
+solid-east = refl
+
+pub solid-west :
+    floors (solidFormula west (wholly 6368503 (lit< tt)) west-moon (wholly 404888734 (lit< tt)) west-sun (wholly 152072442 (lit< tt)))
+    ≡ vec (negℤ (pos 30930166403174639)) (pos 92160734403061649) (negℤ (pos 118784131710482458))
+unfolding floors
+solid-west = refl
+
+pub solid-south :
+    floors (solidFormula south (wholly 6363961 (lit< tt)) south-moon (wholly 350000000 (lit< tt)) south-sun (wholly 146000000 (lit< tt)))
+    ≡ vec (pos 24106954797755596) (negℤ (pos 9144815753094588)) (negℤ (pos 45361073252003947))
+unfolding floors
+solid-south = refl

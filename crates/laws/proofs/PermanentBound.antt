@@ -1,0 +1,132 @@
+-- The 100-grain bound of the permanent shift: for every accepted mark it lies within 100 grains of (14a) and (14b) at the whole distance L.
+--
+-- The chain is over any unit vector that stands for an exact one and any table of errors. A grain count stands for metres at the scale
+-- `metre`: 146,100 for 0.0001 m, 176,196,600 for 0.1206 m, 36,817,200 for 0.0252 m.
+use mathlib.Core.Path.{_≡_}
+use Prim.Native.Nat.{ℕ, _+_, _*_, _≤_}
+use native.Mathlib.Omega.{arith}
+use lib.Dec.{T, lit<, lit≤}
+use lib.IntN.{ℤ, pos, negℤ, _+ℤ_, _-ℤ_, _*ℤ_}
+use Rattle.algebra.specs.Fraction.{Fraction, whole, ratio, wholly, _+ᶠ_, _-ᶠ_, _*ᶠ_, _·ᶠ_}
+use Rattle.algebra.proofs.Difference.{split, ℤ⊖}
+use Rattle.algebra.proofs.Error.{Val, miss, nearV, mulV, timesV, plusV, minusV, weakV, isV, sameV}
+use Rattle.mark.specs.declared.Vec3.{Vec3}
+use Rattle.mark.specs.Mark.{E, lengthOf, marked}
+use Rattle.mark.specs.Permanent.{units, s2, legendre, small, radial, north, down, across, along, permanentOf, permanent}
+use Rattle.mark.specs.Tide.{height}
+use Rattle.laws.specs.Formulas as Exact
+use Rattle.laws.specs.Formulas.{bound, Vector, Close, metre, direction, P2, permanentAt, permanentFormula}
+use Rattle.laws.proofs.Distances.{mark-positive}
+use Rattle.laws.proofs.ErrorTables.{PermanentErrors, whole-permanent}
+use Rattle.laws.proofs.StepValues.{Stands, times-half, square-is, height-is, grains-is, whole-stands}
+use Rattle.laws.proofs.Rearranged.{across-same, along-same}
+
+-- ---- the paper's constants
+
+slope-is : Val metre (pos 146100) (ratio (pos 1) 10000) 0 146100
+unfolding ratio miss
+slope-is = record { off = lit≤ tt; size = lit≤ tt }
+
+radial-is : Val metre (negℤ (pos 176196600)) (ratio (negℤ (pos 1206)) 10000) 0 176196600
+unfolding ratio miss
+radial-is = record { off = lit≤ tt; size = lit≤ tt }
+
+north-is : Val metre (negℤ (pos 36817200)) (ratio (negℤ (pos 252)) 10000) 0 36817200
+unfolding ratio miss
+north-is = record { off = lit≤ tt; size = lit≤ tt }
+
+lower : (a b : ℤ) → negℤ a +ℤ b ≡ b -ℤ a
+lower a b = rw (split a, split b) (simp ℤ⊖ (omega arith))
+
+-- ---- the chain
+
+module _ {n : ℕ} (table : PermanentErrors n) (u : Vec3) (r : Vector) (u-is : Stands n u r) where
+  abbrev S : ℤ
+  S = s2 (u .z)
+
+  abbrev p : ℤ
+  p = legendre S
+
+  abbrev P : Fraction
+  P = P2 (r .z)
+
+  z-is : Val E (u .z) (r .z) n (E + 182)
+  z-is = weakV (u-is .z) (omega arith) (lit≤ tt)
+
+  s2-is : Val E S (r .z *ᶠ r .z) (table .height .s2) (E + 365)
+  unfolding s2
+  s2-is = square-is (table .height) (u .z) (r .z) z-is
+
+  P-is : Val E p P (table .height .p) (E + 548)
+  unfolding s2 height
+  P-is = height-is (table .height) (u .z) (r .z) z-is
+
+  e-is : Val metre (small p) (ratio (pos 1) 10000 *ᶠ P) (table .e) 146101
+  unfolding small
+  e-is = weakV (nearV (times-half (pos 146100) p) (lit< tt) (mulV slope-is P-is)) (table .e-ok) (lit≤ tt)
+
+  A-is : Val metre (radial (small p) p) (Exact.radial P) (table .a) 176400000
+  unfolding radial Exact.radial
+  A-is =
+      weakV
+      (nearV (times-half (small p -ℤ pos 176196600) p) (lit< tt)
+      (mulV (isV (lower (pos 176196600) (small p)) (plusV radial-is e-is)) P-is))
+      (table .a-ok)
+      (lit≤ tt)
+
+  T-is : Val metre (north (small p)) (Exact.north P) (0 + table .e) 36963301
+  unfolding north Exact.north
+  T-is = minusV north-is e-is
+
+  w-is : Val metre (down (north (small p)) S) (Exact.north P *ᶠ (r .z *ᶠ r .z)) (table .w) 36970000
+  unfolding down
+  w-is = weakV (nearV (times-half (north (small p)) S) (lit< tt) (mulV T-is s2-is)) (table .w-ok) (lit≤ tt)
+
+  abbrev a : ℤ
+  a = radial (small p) p
+
+  abbrev w : ℤ
+  w = down (north (small p)) S
+
+  flat-is : Val metre (a -ℤ pos 2 *ℤ w) (Exact.radial P -ᶠ pos 2 ·ᶠ (Exact.north P *ᶠ (r .z *ᶠ r .z))) (table .a + 2 * table .w) 260000000
+  flat-is = weakV (minusV A-is (timesV (pos 2) w-is)) (omega arith) (lit≤ tt)
+
+  -- x and y, from u and its exact component
+  across-is :
+      (v : ℤ) (X : Fraction)
+      → Val E v X n E
+      → Val metre (across a w v) (Exact.radial P *ᶠ X +ᶠ Exact.north P *ᶠ ((pos 2 ·ᶠ r .z) *ᶠ (whole (pos 0) -ᶠ r .z *ᶠ X))) (table .x) 260000001
+  unfolding across
+  across-is v X v-is =
+      sameV (across-same (Exact.radial P) (Exact.north P) (r .z) X)
+      (weakV (nearV (times-half (a -ℤ pos 2 *ℤ w) v) (lit< tt) (mulV flat-is v-is)) (table .x-ok) (lit≤ tt))
+
+  along-is : Val metre (along a (north (small p)) w (u .z)) (permanentAt r .z) (table .z) 340000001
+  unfolding along
+  along-is =
+      sameV (along-same (Exact.radial P) (Exact.north P) (r .z))
+      (weakV
+      (nearV (times-half (a +ℤ pos 2 *ℤ north (small p) -ℤ pos 2 *ℤ w) (u .z)) (lit< tt)
+      (mulV
+      (weakV (minusV (plusV A-is (timesV (pos 2) T-is)) (timesV (pos 2) w-is)) (omega arith) (lit≤ {n = 340000000} tt))
+      (u-is .z)))
+      (table .z-ok)
+      (lit≤ tt))
+
+  -- the shift from u lies within g grains of the formula at r̂
+  pub permanent-chain : (g : ℕ) → table .x ≤ 1000 * g → table .z ≤ 1000 * g → Close g (permanentOf u) (Exact.grains (permanentAt r))
+  unfolding permanentOf
+  permanent-chain g hx hz =
+      record {
+        x = grains-is g (across-is (u .x) (r .x) (u-is .x)) hx;
+        y = grains-is g (across-is (u .y) (r .y) (u-is .y)) hx;
+        z = grains-is g along-is hz;
+      }
+
+-- ---- at the whole distance L, metres
+
+pub permanent-within : (m : Vec3) (t : T (marked m)) → Close bound (permanent m) (permanentFormula m (wholly (lengthOf m) (mark-positive m t)))
+unfolding permanent whole-permanent
+permanent-within m t =
+    let L = wholly (lengthOf m) (mark-positive m t) in
+    permanent-chain whole-permanent (units (lengthOf m) m) (direction m L) (whole-stands m (mark-positive m t)) 100 (lit≤ tt) (lit≤ tt)
