@@ -1,4 +1,4 @@
--- The theorems that the library exists for. Here: both tides lie within 100 grains of the conventional formulas.
+-- The theorems that the library exists for.
 pub mod Distances
 pub mod ErrorTables
 pub mod StepValues
@@ -8,3 +8,19 @@ pub mod PermanentBound
 pub mod BodyChain
 pub mod SolidBound
 pub mod FormulaCases
+pub mod VectorLaws
+pub mod FirstLaws
+pub mod CheckLaws
+pub mod CallLaws
+pub mod SizeLaws
+pub mod TideCases
+pub mod CoreLaws
+pub mod StaysValid
+pub mod ListTheorem
+pub mod TwoCardLaws
+pub mod FieldBound
+pub mod FieldEdition
+pub mod FormulaStep
+pub mod Example
+pub mod StarredTable
+pub mod Outcomes

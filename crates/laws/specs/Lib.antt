@@ -1,2 +1,7 @@
--- The conventional formulas, exact: what the 100-grain bounds compare with.
+-- What the theorems speak of: the conventional formulas, lists of calls, and two cards side by side.
 pub mod Formulas
+pub mod Lists
+pub mod Core
+pub mod TwoCards
+pub mod Starred
+pub mod OneOutcome

@@ -1,0 +1,28 @@
+-- `card::Card::mean_on` meets its contract: the card's number where it is not 0, else the call's own. Assumes nothing.
+use mathlib.Core.Path.{_∙_}
+use borrow.Author.Needs.{needs}
+use Rattle.card.specs.Calls.{meanOn}
+use Rattle.card.proofs.StepLaws.{step-refused, step-accepted, number-passes}
+use Rattle.card.proofs.Card.mean_on.Statement.{statement}
+use Rattle.card.proofs.Card.mean_on.Tie as tie
+
+number-requires : tie.Need-number-requires
+number-requires c κs = search needs
+
+returns : tie.Need-returns
+returns c =
+    let a = c .before .before .args in
+    step-refused (a .self) meanOn (c .before .number .result) (c .before .number .ensures) (c .if1 .taken)
+
+mean-added-requires : tie.Need-mean-added-requires
+mean-added-requires c κs = number-passes (c .before .before .args .self) (c .before .number .result) (c .before .number .ensures) (c .if1 .left)
+
+returns-2 : tie.Need-returns-2
+returns-2 c =
+    let n = c .before .before in
+    let a = n .before .args in
+    c .mean-added .ensures
+    ∙ step-accepted (a .self) meanOn (n .number .result) (n .number .ensures) (c .before .if1 .left)
+
+pub mean-on-spec : {M : Type 1} → statement M
+mean-on-spec = tie.close (tie.spec number-requires returns mean-added-requires returns-2)

@@ -1,0 +1,80 @@
+-- More of a card that passed its checks: the length before them, its nine bytes of site, and byte 10 without solid tide.
+use mathlib.Core.Path.{_≡_, refl, sym, ap, subst}
+use mathlib.Core.Bool.{Bool, true, false, not, _&&_, _||_, true≢false}
+use mathlib.Core.List.{List, _∷_}
+use Prim.Native.Nat.{ℕ, _≤_}
+use native.Mathlib.Omega.{arith}
+use borrow.Author.Tests.{leb-true, eq-eqb, eqb-true, eqb-false}
+use lib.Dec.{T, leb, eqb, lit≤}
+use lib.ListN.{length}
+use lib.IntN.{ℤ, pos, negsuc, natAbs}
+use Rattle.mark.specs.declared.Vec3.{Vec3}
+use Rattle.mark.specs.Mark.{nowhere, marked}
+use Rattle.mark.specs.Refusal.{Table, choose, first}
+use Rattle.mark.specs.Ranges.{Within}
+use Rattle.mark.proofs.LengthLaws.{vec≡, widen}
+use Rattle.mark.proofs.MarkLaws.{accepted-within}
+use Rattle.card.specs.Checks.{sized, shapeFrom, siteShape, isZero, tideFits, positionFits}
+use Rattle.card.proofs.CheckLaws.{both, sized-is, position-small}
+
+-- ---- tests
+
+pub and-left : (a b : Bool) → a && b ≡ true → a ≡ true
+and-left a b e = both a b e .0
+
+pub and-right : (a b : Bool) → a && b ≡ true → b ≡ true
+and-right a b e = both a b e .1
+
+pub and-both : (a b : Bool) → a ≡ true → b ≡ true → a && b ≡ true
+and-both a b e f = rw (e, f)
+
+-- a refusal that is not met
+pub unmet : (b : Bool) → not b ≡ false → b ≡ true
+unmet true e = refl
+unmet false e = absurd (true≢false e)
+
+pub so : (b : Bool) → b ≡ true → T b
+so b e = subst T (sym e) tt
+
+-- ---- a table that starts with the length
+
+pub past-length : (n l : ℕ) (t : Table) → n ≡ l → first ((1, not (eqb n l)) ∷ t) ≡ first t
+unfolding first
+past-length n l t e = rw (eq-eqb n l e)
+
+pub of-length : (n l : ℕ) (t : Table) → first ((1, not (eqb n l)) ∷ t) ≡ 0 → (n ≡ l) × (first t ≡ 0)
+unfolding first
+of-length n l t e = let r = go (eqb n l) e in (eqb-true n l (r .0), r .1)
+  where
+    go : (b : Bool) → choose (not b) 1 (first t) ≡ 0 → (b ≡ true) × (first t ≡ 0)
+    go true e = (refl, e)
+    go false e = absurd (omega arith)
+
+-- ---- sizes
+
+pub site-nine : (s : List ℕ) → siteShape s ≡ true → length s ≡ 9
+unfolding siteShape
+site-nine s e = eqb-true (length s) 9 (and-left (eqb (length s) 9) (shapeFrom s 0 9) e)
+
+pub position-size : (m p : Vec3) → marked m ≡ true → positionFits m p ≡ true → Within 10000000000000000 p
+position-size m p e f = widen (position-small m p (accepted-within m e) f) (lit≤ tt)
+
+-- ---- byte 10
+
+-- without solid tide it is 0 or 1
+pub tide-low : (byte : ℕ) (v : Vec3) → tideFits byte v ≡ true → eqb byte 2 ≡ false → byte ≤ 1
+unfolding tideFits
+tide-low byte v e f =
+    let h : byte ≤ 2 = leb-true byte 2 (and-left (leb byte 2) (eqb byte 2 || isZero v) e) in
+    omega (arith, eqb-false byte 2 f)
+
+size-zero : (z : ℤ) → natAbs z ≤ 0 → z ≡ pos 0
+size-zero (pos n) h = ap pos (omega arith)
+size-zero (negsuc n) h = absurd (omega arith)
+
+-- and no vector is stored
+pub solid-none : (byte : ℕ) (v : Vec3) → tideFits byte v ≡ true → eqb byte 2 ≡ false → v ≡ nowhere
+unfolding tideFits isZero
+solid-none byte v e f =
+    let w : Within 0 v = sized-is 0 v (rw f at (and-right (leb byte 2) (eqb byte 2 || sized 0 v) e)) in
+    vec≡ (size-zero (v .x) (w .x)) (size-zero (v .y) (w .y)) (size-zero (v .z) (w .z))

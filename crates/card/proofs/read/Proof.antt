@@ -1,0 +1,55 @@
+-- `card::read` meets its contract: the length, then what the bytes hold. Assumes nothing.
+use mathlib.Core.Path.{_≡_, refl, sym, ap, _∙_}
+use borrow.Author.Needs.{needs}
+use lib.Dec.{eqb}
+use lib.ListN.{length, getD}
+use Rattle.card.specs.Codec.{readNumber}
+use Rattle.card.proofs.AnswerLaws.{read-short, read-number, read-refused, read-taken}
+use Rattle.card.proofs.read.Statement.{statement}
+use Rattle.card.proofs.read.Tie as tie
+
+refused-requires : tie.Need-refused-requires
+refused-requires c κs = search needs
+
+returns : tie.Need-returns
+returns c = c .refused .ensures ∙ read-short (c .before .before .before .args .s .now) (c .before .if1 .taken)
+
+decode-requires : tie.Need-decode-requires
+decode-requires c κs = search needs
+
+shared-slice-read-number : tie.Need-shared-slice-read-number
+shared-slice-read-number c = search needs
+
+number-requires : tie.Need-number-requires
+number-requires c κs = search needs
+
+number-is : (c : tie.After-number) → c .number .result ≡ readNumber (c .before .before .before .before .before .args .s .now)
+number-is c =
+    let s = c .before .before .before .before .before .args .s .now in
+    read-number s (c .number .result) (eqb (getD s 11 0) 0) (c .before .before .decode .result) (c .before .before .before .if1 .left) refl (c .before .before .decode .ensures) (c .number .ensures)
+
+refused-requires-2 : tie.Need-refused-requires-2
+refused-requires-2 c κs = search needs
+
+returns-2 : tie.Need-returns-2
+returns-2 c =
+    let n = c .before .before in
+    c .refused2 .ensures ∙ read-refused (n .before .before .before .before .before .args .s .now) (n .number .result) (number-is n) (c .before .if2 .taken)
+
+returns-3 : tie.Need-returns-3
+returns-3 c =
+    let n = c .before in
+    read-taken (n .before .before .before .before .before .args .s .now) (n .before .before .decode .result) (n .before .before .decode .ensures) (sym (c .if2 .left) ∙ number-is n)
+
+pub read-spec : {M : Type 1} → statement M
+read-spec =
+    tie.close
+    (tie.spec
+    refused-requires
+    returns
+    decode-requires
+    shared-slice-read-number
+    number-requires
+    refused-requires-2
+    returns-2
+    returns-3)

@@ -1,0 +1,73 @@
+-- `card::steps::decode` meets its contract, a field at a time. Assumes nothing.
+use mathlib.Core.Path.{_≡_, _∙_}
+use mathlib.Core.List.{List}
+use Prim.Native.Nat.{ℕ}
+use borrow.Author.Needs.{needs}
+use lib.ListN.{getD}
+use lib.IntN.{ℤ}
+use mir.Syntax.{w64}
+use mir.Val.{toZ, ofZ}
+use Rattle.algebra.proofs.Machine.{answered}
+use Rattle.octets.specs.Octets.{signedAt}
+use Rattle.mark.specs.declared.Vec3.{Vec3}
+use Rattle.card.specs.declared.Card.{Card}
+use Rattle.card.specs.Layout.{siteOf, vectorAt}
+use Rattle.card.specs.Codec.{decode}
+use Rattle.card.proofs.steps.decode.Statement.{statement}
+use Rattle.card.proofs.steps.decode.Tie as tie
+
+whole : (s site : List ℕ) (e : ℤ) (a b c d : Vec3) → site ≡ siteOf s → e ≡ signedAt s 12 4 → a ≡ vectorAt s 16 4 → b ≡ vectorAt s 28 4 → c ≡ vectorAt s 40 8 → d ≡ vectorAt s 64 8
+    → _≡_ {A = Card} (record { site = site; frame = getD s 9 0; tide = getD s 10 0; epoch = e; mark = a; velocity = b; position = c; solid = d }) (decode s)
+unfolding decode siteOf
+whole s site e a b c d h k p q r u = cc
+
+site-of-requires : tie.Need-site-of-requires
+site-of-requires c κs = search needs
+
+shared-slice-read-t4 : tie.Need-shared-slice-read-t4
+shared-slice-read-t4 c = search needs
+
+shared-slice-read-t6 : tie.Need-shared-slice-read-t6
+shared-slice-read-t6 c = search needs
+
+signed-at-requires : tie.Need-signed-at-requires
+signed-at-requires c κs = search needs
+
+vector-at-requires : tie.Need-vector-at-requires
+vector-at-requires c κs = search needs
+
+vector-at-requires-2 : tie.Need-vector-at-requires-2
+vector-at-requires-2 c κs = search needs
+
+vector-at-requires-3 : tie.Need-vector-at-requires-3
+vector-at-requires-3 c κs = search needs
+
+vector-at-requires-4 : tie.Need-vector-at-requires-4
+vector-at-requires-4 c κs = search needs
+
+returns : tie.Need-returns
+returns c =
+    let epoch = c .before .before .before .before .signed-at in
+    let site = c .before .before .before .before .before .before .before .site-of in
+    whole (c .before .before .before .before .before .before .before .before .before .args .s .now) (site .result) (toZ w64 (ofZ w64 (epoch .result)))
+    (c .before .before .before .vector-at .result) (c .before .before .vector-at2 .result) (c .before .vector-at3 .result) (c .vector-at4 .result)
+    (site .ensures)
+    (answered (epoch .result) (epoch .ok) ∙ epoch .ensures)
+    (c .before .before .before .vector-at .ensures)
+    (c .before .before .vector-at2 .ensures)
+    (c .before .vector-at3 .ensures)
+    (c .vector-at4 .ensures)
+
+pub decode-spec : {M : Type 1} → statement M
+decode-spec =
+    tie.close
+    (tie.spec
+    site-of-requires
+    shared-slice-read-t4
+    shared-slice-read-t6
+    signed-at-requires
+    vector-at-requires
+    vector-at-requires-2
+    vector-at-requires-3
+    vector-at-requires-4
+    returns)

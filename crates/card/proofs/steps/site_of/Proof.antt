@@ -1,0 +1,71 @@
+-- `card::steps::site_of` meets its contract: nine bytes in a row are the first nine. Assumes nothing.
+use mathlib.Core.Path.{_≡_, refl, sym, ap, _∙_}
+use mathlib.Core.List.{List, [], _∷_}
+use Prim.Native.Nat.{ℕ, zero, suc, _+_, _≤_}
+use native.Mathlib.Omega.{arith}
+use borrow.Author.Needs.{needs}
+use lib.ListN.{length, getD, take, drop}
+use lib.Seq.{drop-cons}
+use Rattle.card.specs.Layout.{siteOf}
+use Rattle.card.proofs.steps.site_of.Statement.{statement}
+use Rattle.card.proofs.steps.site_of.Tie as tie
+
+-- k bytes in a row from byte i
+abbrev listed : List ℕ → ℕ → ℕ → List ℕ
+listed s i zero = []
+listed s i (suc k) = getD s i 0 ∷ listed s (suc i) k
+
+listed-is : (s : List ℕ) (i k : ℕ) → i + k ≤ length s → listed s i k ≡ take k (drop i s)
+listed-is s i zero h = refl
+listed-is s i (suc k) h =
+    ap (λ (r : List ℕ). getD s i 0 ∷ r) (listed-is s (suc i) k (omega arith))
+    ∙ ap (take (suc k)) (sym (drop-cons s i 0 (omega arith)))
+
+nine : (s : List ℕ) → 9 ≤ length s → listed s 0 9 ≡ siteOf s
+unfolding siteOf
+nine s h = listed-is s 0 9 h
+
+shared-slice-read-t3 : tie.Need-shared-slice-read-t3
+shared-slice-read-t3 c = search needs
+
+shared-slice-read-t5 : tie.Need-shared-slice-read-t5
+shared-slice-read-t5 c = search needs
+
+shared-slice-read-t7 : tie.Need-shared-slice-read-t7
+shared-slice-read-t7 c = search needs
+
+shared-slice-read-t9 : tie.Need-shared-slice-read-t9
+shared-slice-read-t9 c = search needs
+
+shared-slice-read-t11 : tie.Need-shared-slice-read-t11
+shared-slice-read-t11 c = search needs
+
+shared-slice-read-t13 : tie.Need-shared-slice-read-t13
+shared-slice-read-t13 c = search needs
+
+shared-slice-read-t15 : tie.Need-shared-slice-read-t15
+shared-slice-read-t15 c = search needs
+
+shared-slice-read-t17 : tie.Need-shared-slice-read-t17
+shared-slice-read-t17 c = search needs
+
+shared-slice-read-t19 : tie.Need-shared-slice-read-t19
+shared-slice-read-t19 c = search needs
+
+returns : tie.Need-returns
+returns c = nine (c .before .before .before .before .before .before .before .before .before .args .s .now) (c .before .before .before .before .before .before .before .before .before .pre)
+
+pub site-of-spec : {M : Type 1} → statement M
+site-of-spec =
+    tie.close
+    (tie.spec
+    shared-slice-read-t3
+    shared-slice-read-t5
+    shared-slice-read-t7
+    shared-slice-read-t9
+    shared-slice-read-t11
+    shared-slice-read-t13
+    shared-slice-read-t15
+    shared-slice-read-t17
+    shared-slice-read-t19
+    returns)

@@ -1,0 +1,47 @@
+-- `card::write` meets its contract: the buffer's length, then the card's checks, then its bytes. Assumes nothing.
+use mathlib.Core.Path.{_≡_, refl, sym, ap, _∙_}
+use Prim.Native.Nat.{ℕ}
+use native.Mathlib.Omega.{arith}
+use borrow.Author.Needs.{needs}
+use lib.ListN.{length}
+use Rattle.card.specs.Codec.{writeNumber}
+use Rattle.card.proofs.AnswerLaws.{write-short, write-number, kept-out, put-out}
+use Rattle.card.proofs.write.Statement.{statement}
+use Rattle.card.proofs.write.Tie as tie
+
+one : _≡_ {A = ℕ} 1 0 → ⊥
+one e = omega arith
+
+returns : tie.Need-returns
+returns c =
+    let a = c .before .before .args in
+    let e = write-short (a .card) (length (a .out .now)) (c .if1 .taken) in
+    (e, kept-out (a .card) (a .out .now) 1 e one)
+
+number-requires : tie.Need-number-requires
+number-requires c κs = search needs
+
+number-is : (c : tie.After-number) → c .number .result ≡ writeNumber (c .before .before .before .args .card) (length (c .before .before .before .args .out .now))
+number-is c =
+    let a = c .before .before .before .args in
+    write-number (a .card) (length (a .out .now)) (c .number .result) (c .before .if1 .left) (c .number .ensures)
+
+returns-2 : tie.Need-returns-2
+returns-2 c =
+    let a = c .before .before .before .before .args in
+    (number-is (c .before), kept-out (a .card) (a .out .now) (c .before .number .result) (number-is (c .before)) (c .if2 .taken))
+
+encode-requires : tie.Need-encode-requires
+encode-requires c κs = search needs
+
+same-length : tie.Need-same-length
+same-length c = search needs
+
+returns-3 : tie.Need-returns-3
+returns-3 c =
+    let a = c .before .before .before .before .before .before .before .before .args in
+    let e = sym (c .before .before .before .before .if2 .left) ∙ number-is (c .before .before .before .before .before) in
+    (e, c .before .before .encode .ensures ∙ put-out (a .card) (a .out .now) e)
+
+pub write-spec : {M : Type 1} → statement M
+write-spec = tie.close (tie.spec returns number-requires returns-2 encode-requires same-length returns-3)

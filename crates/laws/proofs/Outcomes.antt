@@ -1,0 +1,93 @@
+-- Each function that the outside can call has one outcome: what it answers, and what lent storage holds afterwards.
+use mathlib.Core.Path.{_≡_, sym, _∙_}
+use Rattle.number.proofs as number
+use Rattle.octets.proofs as octets
+use Rattle.mark.proofs as mark
+use Rattle.card.proofs as card
+use Rattle.laws.specs.OneOutcome.{OneOutcome}
+
+-- both equal what the promise says
+same : {A : Type 0} {x y z : A} → x ≡ z → y ≡ z → x ≡ y
+same p q = p ∙ sym q
+
+-- ---- an answer, and nothing lent to write to
+
+pub magnitude-one : OneOutcome 0 number.magnitude.Kinds.ps number.magnitude.Kinds.r number.magnitude.Reads.Learnt
+magnitude-one κs a z z′ w w′ p q i = (same p q i, w)
+
+pub near-one : OneOutcome 0 number.near.Kinds.ps number.near.Kinds.r number.near.Reads.Learnt
+near-one κs a z z′ w w′ p q i = (same p q i, w)
+
+pub root-one : OneOutcome 0 number.root.Kinds.ps number.root.Kinds.r number.root.Reads.Learnt
+root-one κs a z z′ w w′ p q i = (same p q i, w)
+
+pub whole-one : OneOutcome 0 number.whole.Kinds.ps number.whole.Kinds.r number.whole.Reads.Learnt
+whole-one κs a z z′ w w′ p q i = (same p q i, w)
+
+pub unsigned-at-one : OneOutcome 1 octets.unsigned_at.Kinds.ps octets.unsigned_at.Kinds.r octets.unsigned_at.Reads.Learnt
+unsigned-at-one κs a z z′ w w′ p q i = (same p q i, w)
+
+pub signed-at-one : OneOutcome 1 octets.signed_at.Kinds.ps octets.signed_at.Kinds.r octets.signed_at.Reads.Learnt
+signed-at-one κs a z z′ w w′ p q i = (same p q i, w)
+
+pub double-at-one : OneOutcome 1 octets.double_at.Kinds.ps octets.double_at.Kinds.r octets.double_at.Reads.Learnt
+double-at-one κs a z z′ w w′ p q i = (same p q i, w)
+
+pub check-mark-one : OneOutcome 0 mark.check_mark.Kinds.ps mark.check_mark.Kinds.r mark.check_mark.Reads.Learnt
+check-mark-one κs a z z′ w w′ p q i = (same p q i, w)
+
+pub permanent-one : OneOutcome 0 mark.permanent.Kinds.ps mark.permanent.Kinds.r mark.permanent.Reads.Learnt
+permanent-one κs a z z′ w w′ p q i = (same p q i, w)
+
+pub frame-terms-one : OneOutcome 0 mark.frame_terms.Kinds.ps mark.frame_terms.Kinds.r mark.frame_terms.Reads.Learnt
+frame-terms-one κs a z z′ w w′ p q i = (same p q i, w)
+
+pub solid-tide-one : OneOutcome 0 mark.solid_tide.Kinds.ps mark.solid_tide.Kinds.r mark.solid_tide.Reads.Learnt
+solid-tide-one κs a z z′ w w′ p q i = (same p q i, w)
+
+pub read-one : OneOutcome 1 card.read.Kinds.ps card.read.Kinds.r card.read.Reads.Learnt
+read-one κs a z z′ w w′ p q i = (same p q i, w)
+
+pub expand-one : OneOutcome 1 card.expand.Kinds.ps card.expand.Kinds.r card.expand.Reads.Learnt
+expand-one κs a z z′ w w′ p q i = (same p q i, w)
+
+pub check-one : OneOutcome 0 card.Card.check.Kinds.ps card.Card.check.Kinds.r card.Card.check.Reads.Learnt
+check-one κs a z z′ w w′ p q i = (same p q i, w)
+
+pub metres-out-one : OneOutcome 0 card.Card.metres_out.Kinds.ps card.Card.metres_out.Kinds.r card.Card.metres_out.Reads.Learnt
+metres-out-one κs a z z′ w w′ p q i = (same p q i, w)
+
+pub move-by-one : OneOutcome 0 card.Card.move_by.Kinds.ps card.Card.move_by.Kinds.r card.Card.move_by.Reads.Learnt
+move-by-one κs a z z′ w w′ p q i = (same p q i, w)
+
+pub to-frame-one : OneOutcome 0 card.Card.to_frame.Kinds.ps card.Card.to_frame.Kinds.r card.Card.to_frame.Reads.Learnt
+to-frame-one κs a z z′ w w′ p q i = (same p q i, w)
+
+pub mean-on-one : OneOutcome 0 card.Card.mean_on.Kinds.ps card.Card.mean_on.Kinds.r card.Card.mean_on.Reads.Learnt
+mean-on-one κs a z z′ w w′ p q i = (same p q i, w)
+
+pub mean-off-one : OneOutcome 0 card.Card.mean_off.Kinds.ps card.Card.mean_off.Kinds.r card.Card.mean_off.Reads.Learnt
+mean-off-one κs a z z′ w w′ p q i = (same p q i, w)
+
+pub solid-on-one : OneOutcome 0 card.Card.solid_on.Kinds.ps card.Card.solid_on.Kinds.r card.Card.solid_on.Reads.Learnt
+solid-on-one κs a z z′ w w′ p q i = (same p q i, w)
+
+pub solid-off-one : OneOutcome 0 card.Card.solid_off.Kinds.ps card.Card.solid_off.Kinds.r card.Card.solid_off.Reads.Learnt
+solid-off-one κs a z z′ w w′ p q i = (same p q i, w)
+
+-- ---- lent storage
+
+pub put-signed-one : OneOutcome 1 octets.put_signed.Kinds.ps octets.put_signed.Kinds.r octets.put_signed.Reads.Learnt
+put-signed-one κs a z z′ w w′ p q i = (z, (same p q i, w .1))
+
+pub put-bytes-one : OneOutcome 2 octets.put_bytes.Kinds.ps octets.put_bytes.Kinds.r octets.put_bytes.Reads.Learnt
+put-bytes-one κs a z z′ w w′ p q i = (z, (same p q i, w .1))
+
+pub series-one : OneOutcome 2 mark.series.Kinds.ps mark.series.Kinds.r mark.series.Reads.Learnt
+series-one κs a z z′ w w′ p q i = (same (p .0) (q .0) i, (w .0, (w .1 .0, (same (p .1) (q .1) i, w .1 .1 .1))))
+
+pub write-one : OneOutcome 1 card.write.Kinds.ps card.write.Kinds.r card.write.Reads.Learnt
+write-one κs a z z′ w w′ p q i = (same (p .0) (q .0) i, (w .0, (same (p .1) (q .1) i, w .1 .1)))
+
+pub export-one : OneOutcome 1 card.export.Kinds.ps card.export.Kinds.r card.export.Reads.Learnt
+export-one κs a z z′ w w′ p q i = (same (p .0) (q .0) i, (w .0, (same (p .1) (q .1) i, w .1 .1)))

@@ -1,0 +1,45 @@
+-- The numbers that the paper marks with a star, as one table: each row stands beside the page, about the definitions that the promises cite.
+use mathlib.Core.Path.{_≡_}
+use lib.IntN.{pos, negℤ, _+ℤ_, _*ℤ_}
+use lib.Ieee.{ofBits, binary64}
+use Rattle.number.specs.Near.{near}
+use Rattle.number.specs.Whole.{wholeOf, some}
+use Rattle.mark.specs.declared.Vec3.{Vec3}
+use Rattle.mark.specs.Mark.{vec, lengthOf, markNumber}
+use Rattle.mark.specs.Permanent.{units, permanent}
+use Rattle.mark.specs.Frame.{frameA, frameB, frameShift}
+use Rattle.mark.specs.Bodies.{moon}
+use Rattle.mark.specs.Tide.{partOf}
+use Rattle.card.specs.Field.{roundedBy}
+use Rattle.card.specs.Calls.{move, moved, step}
+use Rattle.card.proofs.Cases.{at}
+
+-- the mark of case 2, metres
+abbrev pub equator : Vec3
+equator = vec (pos 6378137) (pos 0) (pos 0)
+
+pub record Starred : Type 0 where
+  -- near(1/2) = 1, near(-1/2) = -1, near(-3/2) = -2
+  pub case-1 : (near (pos 1) 2 ≡ pos 1) × (near (negℤ (pos 1)) 2 ≡ negℤ (pos 1)) × (near (negℤ (pos 3)) 2 ≡ negℤ (pos 2))
+  -- mark (6378137, 0, 0): permanent shift (88,134,825, 0, 0)
+  pub case-2 : permanent equator ≡ vec (pos 88134825) (pos 0) (pos 0)
+  -- mark (0, 0, 6356752): (0, 0, -176,050,500)
+  pub case-3 : permanent (vec (pos 0) (pos 0) (pos 6356752)) ≡ vec (pos 0) (pos 0) (negℤ (pos 176050500))
+  -- mark of 2, ITRF2005: A = (5,837,351, -1,314,900, -6,866,700), B = (300, 0, 0)
+  pub case-4 : (frameA 1 equator ≡ vec (pos 5837351) (negℤ (pos 1314900)) (negℤ (pos 6866700))) × (frameB 1 equator ≡ vec (pos 300) (pos 0) (pos 0))
+  -- same, ITRF2000: A = (9,710,834, -2,483,700, -15,340,500), B = (610, 100, -1,800)
+  pub case-5 : (frameA 2 equator ≡ vec (pos 9710834) (negℤ (pos 2483700)) (negℤ (pos 15340500))) × (frameB 2 equator ≡ vec (pos 610) (pos 100) (negℤ (pos 1800)))
+  -- ITRF2005 shift in x at epoch 7,305: 8,028,851
+  pub case-6 : frameShift 0 1 (pos 7305) equator .x ≡ pos 8028851
+  -- velocity 20,000 moved 1,461: 29,220,000 grains
+  pub case-7 : moved (pos 1461) (at (pos 0)) .position ≡ vec (at (pos 0) .position .x +ℤ pos 29220000) (pos 0) (pos 0)
+  -- epoch 146,100 moved 1: refusal 5
+  pub case-8 : step (at (pos 146100)) (move (pos 1)) .number ≡ 5
+  -- marks (6300000, 0, 0) and (6400000, 1, 0) accepted; (6299999, 0, 0) and (6400001, 0, 0) refused, 6
+  pub case-9 : (markNumber (vec (pos 6300000) (pos 0) (pos 0)) ≡ 0) × (markNumber (vec (pos 6400000) (pos 1) (pos 0)) ≡ 0) × (markNumber (vec (pos 6299999) (pos 0) (pos 0)) ≡ 6) × (markNumber (vec (pos 6400001) (pos 0) (pos 0)) ≡ 6)
+  -- doubles 2.5 and -0.5 become 3 and -1
+  pub case-10 : (wholeOf (ofBits binary64 0x4004_0000_0000_0000) ≡ some (pos 3)) × (wholeOf (ofBits binary64 0xbfe0_0000_0000_0000) ≡ some (negℤ (pos 1)))
+  -- field offsets of 73,050, 73,049 and -73,050 grains: 1, 0, -1
+  pub case-11 : roundedBy 146100 (vec (pos 73050) (pos 73049) (negℤ (pos 73050))) ≡ vec (pos 1) (pos 0) (negℤ (pos 1))
+  -- Moon (384400000, 0, 0), mark of 2: its part is (near(6,078 K0/10,000), 0, 0)
+  pub case-12 : partOf (moon .r0) (moon .k0) (units (lengthOf equator) equator) (vec (pos 384400000) (pos 0) (pos 0)) 384400000 ≡ vec (near (pos 6078 *ℤ pos (moon .k0)) 10000) (pos 0) (pos 0)
