@@ -9,6 +9,7 @@ use Rattle.mark.specs.declared.Body.{Body}
 use Rattle.mark.specs.Mark.{vec, nowhere}
 use Rattle.mark.specs.Permanent.{permanent}
 use Rattle.mark.specs.Frame.{knownFrame, frameA, frameB}
+unfoldable pub use Rattle.mark.specs.Frame.{frameAt}
 use Rattle.mark.specs.Bodies.{moon, sun, finite, inReach, paired, moonOf, sunOf}
 use Rattle.mark.specs.Tide.{plus, tide}
 use Rattle.mark.specs.Refusal.{Table, first}
@@ -28,10 +29,6 @@ pub data Call : Type 0 where
 abbrev pub with-position : Card → ℕ → Vec3 → Vec3 → Card
 with-position c byte p v =
     record { site = c .site; frame = c .frame; tide = byte; epoch = c .epoch; mark = c .mark; velocity = c .velocity; position = p; solid = v }
-
--- A + B x epoch of a frame, grains
-unfoldable pub frameAt : ℕ → Vec3 → ℤ → Vec3
-frameAt g m e = plus (frameA g m) (scaled e (frameB g m))
 
 -- epoch plus d, position plus velocity x d
 unfoldable pub moved : ℤ → Card → Card

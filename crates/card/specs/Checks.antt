@@ -7,6 +7,7 @@ use lib.ListN.{length, getD}
 use lib.IntN.{ℤ, pos, natAbs, _+ℤ_, _-ℤ_, _*ℤ_}
 use Rattle.mark.specs.declared.Vec3.{Vec3}
 use Rattle.mark.specs.Mark.{vec, nowhere, between, marked}
+unfoldable pub use Rattle.mark.specs.Mark.{minus, scaled}
 use Rattle.mark.specs.Frame.{knownFrame}
 use Rattle.mark.specs.Refusal.{Table, first}
 use Rattle.card.specs.declared.Card.{Card}
@@ -18,12 +19,6 @@ metre = 1461000000
 -- each of three numbers is at most n in size
 unfoldable pub sized : ℕ → Vec3 → Bool
 sized n v = leb (natAbs (v .x)) n && leb (natAbs (v .y)) n && leb (natAbs (v .z)) n
-
-unfoldable pub minus : Vec3 → Vec3 → Vec3
-minus v w = vec (v .x -ℤ w .x) (v .y -ℤ w .y) (v .z -ℤ w .z)
-
-unfoldable pub scaled : ℤ → Vec3 → Vec3
-scaled k v = vec (k *ℤ v .x) (k *ℤ v .y) (k *ℤ v .z)
 
 -- a digit, `0` to `9`
 unfoldable pub digit : ℕ → Bool

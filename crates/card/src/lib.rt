@@ -116,6 +116,13 @@ pub fn expand(s: &[u8]) -> Answer
     }
 }
 
+// Nine bytes of site shape: five digits, M or S, three digits.
+pub fn is_site(s: &[u8]) -> bool
+    ensures { λ r. ⌜ r ≡ K.siteShape (now (s .entry)) ⌝ }
+{
+    steps::site_shape(s)
+}
+
 impl Card {
     // The card's own checks: 2 to 9, or 0.
     pub fn check(self) -> u32

@@ -4,9 +4,9 @@ use lib.IntN.{pos, negsuc, negℤ, _*ℤ_}
 use Rattle.number.specs.Near.{near, nearest}
 use Rattle.number.specs.Root.{root, rootIn, refine}
 use Rattle.mark.specs.declared.Vec3.{Vec3}
-use Rattle.mark.specs.Mark.{E, times, vec, squares, lengthOf, marked, markNumber}
+use Rattle.mark.specs.Mark.{E, times, vec, plus, minus, scaled, squares, lengthOf, marked, markNumber}
 use Rattle.mark.specs.Permanent.{unit, units, s2, legendre, small, radial, north, down, across, along, permanentOf, permanent}
-use Rattle.mark.specs.Frame.{rowOf, offset, drift, frameA, frameB, frameAt, minus, frameShift}
+use Rattle.mark.specs.Frame.{rowOf, offset, drift, frameA, frameB, frameAt, frameShift}
 use Rattle.mark.specs.Bodies.{moon}
 use Rattle.mark.specs.Tide.{nearness, strength, cosine, height, upward, sideways, component, partOf}
 use Rattle.mark.specs.Refusal.{first}
@@ -40,7 +40,7 @@ case-5 = (refl, refl)
 
 -- 6. the ITRF2005 shift in x at epoch 7,305
 pub case-6 : frameShift 0 1 (pos 7305) equator .x ≡ pos 8028851
-unfolding frameShift frameAt minus frameA frameB rowOf offset drift near nearest
+unfolding frameShift frameAt plus minus scaled frameA frameB rowOf offset drift near nearest
 case-6 = refl
 
 -- 9. accepted, and refused with 6

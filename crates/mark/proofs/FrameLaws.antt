@@ -5,9 +5,8 @@ use native.Mathlib.Omega.{arith}
 use lib.IntN.{ℤ, pos, _+ℤ_, _-ℤ_}
 use Rattle.algebra.proofs.Difference.{split, ℤ⊖}
 use Rattle.mark.specs.declared.Vec3.{Vec3}
-use Rattle.mark.specs.Mark.{nowhere}
-use Rattle.mark.specs.Frame.{frameAt, frameB, minus, frameShift, frameGain}
-use Rattle.mark.specs.Tide.{plus}
+use Rattle.mark.specs.Mark.{nowhere, plus, minus}
+use Rattle.mark.specs.Frame.{frameAt, frameB, frameShift, frameGain}
 use Rattle.mark.proofs.LengthLaws.{vec≡}
 
 onward : (a b c : ℤ) → (b -ℤ a) +ℤ (c -ℤ b) ≡ c -ℤ a
@@ -27,12 +26,12 @@ minus-return u v = vec≡ (return (u .x) (v .x)) (return (u .y) (v .y)) (return 
 -- from f to g and on to h is from f to h
 pub shift-through : (f g h : ℕ) (epoch : ℤ) (m : Vec3) → plus (frameShift f g epoch m) (frameShift g h epoch m) ≡ frameShift f h epoch m
 unfolding frameShift
-shift-through f g h epoch m = minus-onward (frameAt f epoch m) (frameAt g epoch m) (frameAt h epoch m)
+shift-through f g h epoch m = minus-onward (frameAt f m epoch) (frameAt g m epoch) (frameAt h m epoch)
 
 -- there and back is nothing
 pub shift-back : (f g : ℕ) (epoch : ℤ) (m : Vec3) → plus (frameShift f g epoch m) (frameShift g f epoch m) ≡ nowhere
 unfolding frameShift
-shift-back f g epoch m = minus-return (frameAt f epoch m) (frameAt g epoch m)
+shift-back f g epoch m = minus-return (frameAt f m epoch) (frameAt g m epoch)
 
 -- the same of what a velocity gains
 pub gain-through : (f g h : ℕ) (m : Vec3) → plus (frameGain f g m) (frameGain g h m) ≡ frameGain f h m

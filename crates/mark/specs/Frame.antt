@@ -12,7 +12,7 @@ use Rattle.number.specs.Near.{near}
 use Rattle.mark.specs.declared.Vec3.{Vec3}
 use Rattle.mark.specs.declared.Row.{Row}
 use Rattle.mark.specs.declared.Terms.{Terms}
-use Rattle.mark.specs.Mark.{vec, nowhere, marked}
+use Rattle.mark.specs.Mark.{vec, nowhere, marked, plus, minus, scaled}
 use Rattle.mark.specs.Refusal.{first}
 
 abbrev pub row : Vec3 → ℤ → Vec3 → ℤ → Row
@@ -55,20 +55,13 @@ frameB code m =
     let r = rowOf code in
     vec (drift (r .trate .x) (r .drate) (m .x)) (drift (r .trate .y) (r .drate) (m .y)) (drift (r .trate .z) (r .drate) (m .z))
 
--- A + B x epoch
-unfoldable pub frameAt : ℕ → ℤ → Vec3 → Vec3
-frameAt code epoch m =
-    let a = frameA code m in
-    let b = frameB code m in
-    vec (a .x +ℤ b .x *ℤ epoch) (a .y +ℤ b .y *ℤ epoch) (a .z +ℤ b .z *ℤ epoch)
-
--- v - w
-unfoldable pub minus : Vec3 → Vec3 → Vec3
-minus v w = vec (v .x -ℤ w .x) (v .y -ℤ w .y) (v .z -ℤ w .z)
+-- A + B x epoch, grains
+unfoldable pub frameAt : ℕ → Vec3 → ℤ → Vec3
+frameAt g m epoch = plus (frameA g m) (scaled epoch (frameB g m))
 
 -- what a position gains from frame f to g: (A_g + B_g x epoch) - (A_f + B_f x epoch)
 unfoldable pub frameShift : ℕ → ℕ → ℤ → Vec3 → Vec3
-frameShift f g epoch m = minus (frameAt g epoch m) (frameAt f epoch m)
+frameShift f g epoch m = minus (frameAt g m epoch) (frameAt f m epoch)
 
 -- what a velocity gains from frame f to g: B_g - B_f
 unfoldable pub frameGain : ℕ → ℕ → Vec3 → Vec3

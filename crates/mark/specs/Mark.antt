@@ -3,7 +3,7 @@ use Prim.Native.Nat.{ℕ, _+_, _*_, _^_}
 use mathlib.Core.Bool.{Bool, not, cond, _&&_}
 use mathlib.Core.List.{[], _∷_}
 use lib.Dec.{leb}
-use lib.IntN.{ℤ, pos, natAbs, _*ℤ_}
+use lib.IntN.{ℤ, pos, natAbs, _+ℤ_, _-ℤ_, _*ℤ_}
 use Rattle.number.specs.Near.{near}
 use Rattle.number.specs.Root.{root}
 use Rattle.mark.specs.declared.Vec3.{Vec3}
@@ -26,6 +26,16 @@ nowhere = vec (pos 0) (pos 0) (pos 0)
 -- one rule for three components
 abbrev pub each : (ℤ → ℤ) → Vec3 → Vec3
 each f v = vec (f (v .x)) (f (v .y)) (f (v .z))
+
+-- sums, differences and multiples, a component at a time
+unfoldable pub plus : Vec3 → Vec3 → Vec3
+plus v w = vec (v .x +ℤ w .x) (v .y +ℤ w .y) (v .z +ℤ w .z)
+
+unfoldable pub minus : Vec3 → Vec3 → Vec3
+minus v w = vec (v .x -ℤ w .x) (v .y -ℤ w .y) (v .z -ℤ w .z)
+
+unfoldable pub scaled : ℤ → Vec3 → Vec3
+scaled k v = vec (k *ℤ v .x) (k *ℤ v .y) (k *ℤ v .z)
 
 -- x² + y² + z²
 unfoldable pub squares : Vec3 → ℕ

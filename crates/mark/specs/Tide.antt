@@ -10,6 +10,7 @@ use Rattle.mark.specs.declared.BodyVector.{BodyVector}
 use Rattle.mark.specs.declared.Body.{Body}
 use Rattle.mark.specs.declared.Shift.{Shift}
 use Rattle.mark.specs.Mark.{E, times, vec, nowhere, lengthOf, marked}
+unfoldable pub use Rattle.mark.specs.Mark.{plus}
 use Rattle.mark.specs.Permanent.{units, legendre}
 use Rattle.mark.specs.Bodies.{Kind, moon, sun, wholes, finite, inReach, paired, moonOf, sunOf}
 use Rattle.mark.specs.Refusal.{first}
@@ -51,9 +52,6 @@ partOf r0 k0 u v r =
     let rho = upward s c in
     let t = sideways s c in
     vec (component rho t c (u .x) (d .x)) (component rho t c (u .y) (d .y)) (component rho t c (u .z) (d .z))
-
-unfoldable pub plus : Vec3 → Vec3 → Vec3
-plus v w = vec (v .x +ℤ w .x) (v .y +ℤ w .y) (v .z +ℤ w .z)
 
 -- the part of a body of a kind, from its doubles
 abbrev pub part : Kind → Vec3 → BodyVector → Vec3

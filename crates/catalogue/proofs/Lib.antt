@@ -1,0 +1,4 @@
+-- The laws of the catalogue.
+pub mod LookupLaws
+pub mod ReaderLaws
+pub mod LineLaws

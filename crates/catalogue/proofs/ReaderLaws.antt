@@ -1,0 +1,93 @@
+-- The reader's steps: the parts of the catalogue read in order, a short last one as 1, then done for ever. Assumes nothing.
+use mathlib.Core.Path.{_≡_, refl, sym, ap, _∙_}
+use mathlib.Core.Bool.{Bool, true, false, cond}
+use mathlib.Core.List.{List, [], _∷_, _++_, map}
+use Prim.Native.Nat.{ℕ, zero, suc, _+_, _-_, _*_, _/_, _≤_, _<_}
+use native.Mathlib.Omega.{arith}
+use borrow.Author.Tests.{le-leb, lt-leb, lt-ltb, le-ltb, ltb-true, ltb-false}
+use lib.Dec.{leb, ltb}
+use lib.ListN.{length, take, drop, replicate, length-take, length-drop}
+use Rattle.card.specs.declared.Answer.{Answer}
+use Rattle.card.specs.Codec.{zeroCard, readCard}
+use Rattle.card.proofs.AnswerLaws.{read-short}
+use Rattle.catalogue.specs.declared.Taken.{Taken}
+use Rattle.catalogue.specs.Reader.{ended, stepped, takenAt, Seen, seen, answers, partsFrom, partCount, parts, readSeen, doneSeen}
+
+-- ---- the three outcomes of a step
+
+pub taken-end : (s : List ℕ) (at : ℕ) → length s ≤ at → takenAt s at ≡ ended at
+unfolding takenAt
+taken-end s at h = rw (le-leb (length s) at h)
+
+pub taken-short : (s : List ℕ) (at : ℕ) → at < length s → length s - at < 88
+    → takenAt s at ≡ stepped (record { number = 1; card = zeroCard }) (length s)
+unfolding takenAt
+taken-short s at h k = rw (lt-leb (length s) at h, lt-ltb (length s - at) 88 k)
+
+pub taken-whole : (s : List ℕ) (at : ℕ) → at < length s → 88 ≤ length s - at
+    → takenAt s at ≡ stepped (readCard (take 88 (drop at s))) (at + 88)
+unfolding takenAt
+taken-whole s at h k = rw (lt-leb (length s) at h, le-ltb (length s - at) 88 k)
+
+-- ---- the same as a caller sees them
+
+step-one : (s : List ℕ) (at n : ℕ) (t : Taken) → takenAt s at ≡ t → answers s at (suc n) ≡ seen t ∷ answers s (t .next) n
+unfolding answers
+step-one s at n t e = rw e
+
+at-end : (s : List ℕ) (at n : ℕ) → length s ≤ at → answers s at (suc n) ≡ doneSeen ∷ answers s at n
+unfolding ended seen doneSeen
+at-end s at n h = step-one s at n (ended at) (taken-end s at h)
+
+at-short : (s : List ℕ) (at n : ℕ) → at < length s → length s - at < 88
+    → answers s at (suc n) ≡ readSeen (take 88 (drop at s)) ∷ answers s (length s) n
+unfolding stepped seen readSeen
+at-short s at n h k =
+    let e : length (take 88 (drop at s)) ≡ 88 → ⊥ = simp (length-take, length-drop) (omega arith) in
+    step-one s at n (stepped (record { number = 1; card = zeroCard }) (length s)) (taken-short s at h k)
+    ∙ ap (λ (a : Answer). (false, a) ∷ answers s (length s) n) (read-short (take 88 (drop at s)) e)
+
+at-whole : (s : List ℕ) (at n : ℕ) → at < length s → 88 ≤ length s - at
+    → answers s at (suc n) ≡ readSeen (take 88 (drop at s)) ∷ answers s (at + 88) n
+unfolding stepped seen readSeen
+at-whole s at n h k = step-one s at n (stepped (readCard (take 88 (drop at s))) (at + 88)) (taken-whole s at h k)
+
+-- ---- all steps
+
+done-after : (s : List ℕ) (at k : ℕ) → length s ≤ at → answers s at k ≡ replicate k doneSeen
+unfolding answers
+done-after s at zero h = refl
+done-after s at (suc k) h = at-end s at k h ∙ ap (λ (l : List Seen). doneSeen ∷ l) (done-after s at k h)
+
+-- the last part, short or whole
+from-last : (s : List ℕ) (at k : ℕ) → at < length s → length s ≤ at + 88
+    → answers s at (suc k) ≡ readSeen (take 88 (drop at s)) ∷ replicate k doneSeen
+from-last s at k h l = by (ltb (length s - at) 88) refl
+  where
+    by : (b : Bool) → ltb (length s - at) 88 ≡ b → answers s at (suc k) ≡ readSeen (take 88 (drop at s)) ∷ replicate k doneSeen
+    by true e = at-short s at k h (ltb-true (length s - at) 88 e) ∙ ap (λ (r : List Seen). readSeen (take 88 (drop at s)) ∷ r) (done-after s (length s) k (omega arith))
+    by false e =
+        let w = ltb-false (length s - at) 88 e in
+        at-whole s at k h w ∙ ap (λ (r : List Seen). readSeen (take 88 (drop at s)) ∷ r) (done-after s (at + 88) k l)
+
+-- n + 1 parts are left: 88 bytes in each but the last
+from-place : (s : List ℕ) (at n k : ℕ) → at + 88 * n < length s → length s ≤ at + 88 * n + 88
+    → answers s at (suc n + k) ≡ map readSeen (partsFrom s at (suc n)) ++ replicate k doneSeen
+unfolding partsFrom
+from-place s at zero k h l =
+    let e : 1 + k ≡ suc k = omega arith in
+    rw e (from-last s at k (omega arith) (omega arith))
+from-place s at (suc n) k h l =
+    let e : suc (suc n) + k ≡ suc (suc n + k) = omega arith in
+    rw e
+    (at-whole s at (suc n + k) (omega arith) (omega arith)
+    ∙ ap (λ (r : List Seen). readSeen (take 88 (drop at s)) ∷ r) (from-place s (at + 88) n k (omega arith) (omega arith)))
+
+-- the answers of a catalogue's steps from its start: its parts read in order, then done for ever
+pub all-answers : (s : List ℕ) (k : ℕ) → answers s 0 (partCount s + k) ≡ map readSeen (parts s) ++ replicate k doneSeen
+unfolding parts partCount partsFrom
+all-answers s k = by (partCount s) refl
+  where
+    by : (n : ℕ) → partCount s ≡ n → answers s 0 (n + k) ≡ map readSeen (partsFrom s 0 n) ++ replicate k doneSeen
+    by zero e = let z : 0 + k ≡ k = omega arith in rw z (done-after s 0 k (omega arith))
+    by (suc n) e = from-place s 0 n k (omega arith) (omega arith)

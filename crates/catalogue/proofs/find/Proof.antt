@@ -1,0 +1,91 @@
+-- `catalogue::find` meets its contract: the part that the scan names. Assumes nothing.
+use borrow.Author.Needs.{needs}
+use mathlib.Core.Path.{_≡_, refl, sym, ap, _∙_}
+use Prim.Native.Nat.{ℕ, _+_, _-_, _≤_}
+use native.Mathlib.Omega.{arith}
+use lib.ListN.{length}
+use Rattle.catalogue.specs.Lookup.{findNumber, findPlace, placeOf}
+use Rattle.catalogue.proofs.LookupLaws.{number-of, place-of, place-refused, place-within, part-of, part-none}
+use Rattle.catalogue.proofs.find.Statement.{statement}
+use Rattle.catalogue.proofs.find.Tie as tie
+use Rattle.catalogue.proofs.find.Reads as reads
+use Rattle.catalogue.proofs.find.Lts as lts
+use Rattle.catalogue.proofs.scan.Reads as scan-reads
+
+scan-requires : tie.Need-scan-requires
+scan-requires c κs = search needs
+
+module _ (c : tie.After-struct-known) where
+  number-is : c .before .scan .result .number ≡ findNumber (c .before .before .before .before .args .catalogue .now) (c .before .before .before .before .args .key .now)
+  number-is = number-of (c .before .before .before .before .args .catalogue .now) (c .before .before .before .before .args .key .now) (c .before .scan .ensures)
+
+  place-is : c .before .scan .result .place ≡ findPlace (c .before .before .before .before .args .catalogue .now) (c .before .before .before .before .args .key .now)
+  place-is = place-of (c .before .before .before .before .args .catalogue .now) (c .before .before .before .before .args .key .now) (c .before .scan .ensures)
+
+  ptr-is : (p : ℕ × ℕ)
+      → _≡_ {A = ℕ × ℕ} (p .0, c .before .scan .result .place + p .1)
+      (placeOf p (findPlace (c .before .before .before .before .args .catalogue .now) (c .before .before .before .before .args .key .now)))
+  ptr-is p = ap (placeOf p) place-is
+
+refused-at : (c : tie.Then1) → c .before .before .scan .result .place ≡ length (c .before .before .before .before .before .args .catalogue .now)
+refused-at c =
+    let a = c .before .before .before .before .before .args in
+    place-is (c .before) ∙ place-refused (a .catalogue .now) (a .key .now) (λ z. c .if1 .taken (number-is (c .before) ∙ z))
+
+within : (c : tie.Else1) → c .before .before .scan .result .place + 88 ≤ length (c .before .before .before .before .before .args .catalogue .now)
+within c =
+    let a = c .before .before .before .before .before .args in
+    let e = place-is (c .before) in
+    let h = place-within (a .catalogue .now) (a .key .now) (sym (number-is (c .before)) ∙ c .if1 .left) in
+    omega arith
+
+sub-result : tie.Need-sub-result
+sub-result c = omega (arith, refused-at c)
+
+part-result-start : tie.Need-part-result-start
+part-result-start c = omega (arith, refused-at c)
+
+part-result-end : tie.Need-part-result-end
+part-result-end c = search needs
+
+returns : tie.Need-returns
+returns c =
+    let k = c .before .before in
+    let a = k .before .before .before .before .args in (
+      part-none (a .catalogue .now) (a .key .now) (k .before .scan .result .place) (length (a .catalogue .now) - k .before .scan .result .place)
+          (λ z. c .before .if1 .taken (number-is k ∙ z)) (place-is k),
+      ptr-is k (a .catalogue .ptr),
+    )
+
+add-end : tie.Need-add-end
+add-end c = omega (arith, within c)
+
+sub-result-2 : tie.Need-sub-result-2
+sub-result-2 c = search needs
+
+part-result-start-2 : tie.Need-part-result-start-2
+part-result-start-2 c = search needs
+
+part-result-end-2 : tie.Need-part-result-end-2
+part-result-end-2 c = omega (arith, within c)
+
+returns-2 : tie.Need-returns-2
+returns-2 c =
+    let k = c .before .before in
+    let a = k .before .before .before .before .args in
+    (part-of (a .catalogue .now) (a .key .now) (k .before .scan .result .place) (sym (number-is k) ∙ c .before .if1 .left) (place-is k), ptr-is k (a .catalogue .ptr))
+
+pub find-spec : {M : Type 1} → statement M
+find-spec =
+    tie.close
+    (tie.spec
+    scan-requires
+    sub-result
+    part-result-start
+    part-result-end
+    returns
+    add-end
+    sub-result-2
+    part-result-start-2
+    part-result-end-2
+    returns-2)

@@ -1,0 +1,67 @@
+-- `catalogue::put_refused` meets its contract: the word, the number, the line feed. Assumes nothing.
+use mathlib.Core.Path.{_≡_, refl, sym, ap, _∙_}
+use mathlib.Core.List.{List, [], _∷_, _++_}
+use Prim.Native.Nat.{ℕ, suc, _+_, _≤_, _<_}
+use native.Mathlib.Omega.{arith}
+use lib.ListN.{length}
+use Rattle.octets.specs.Octets.{splice}
+use Rattle.catalogue.specs.Line.{natural, refusedWord, refusedLine}
+use Rattle.catalogue.proofs.LineLaws.{Put, put-more, put-one, put-as, length-natural, places-most, refused-text}
+use borrow.Author.Needs.{needs}
+use Rattle.catalogue.proofs.put_refused.Statement.{statement}
+use Rattle.catalogue.proofs.put_refused.Tie as tie
+use Rattle.catalogue.proofs.put_refused.Reads as reads
+use Rattle.catalogue.proofs.put_refused.Lts as lts
+use Rattle.catalogue.proofs.text.put_byte.Reads as put-byte-reads
+use Rattle.catalogue.proofs.text.put_natural.Reads as put-natural-reads
+use Rattle.octets.proofs.put_bytes.Reads as put-bytes-reads
+
+slice-aggregate-put-bytes : tie.Need-slice-aggregate-put-bytes
+slice-aggregate-put-bytes c = search needs
+
+put-bytes-requires : tie.Need-put-bytes-requires
+put-bytes-requires c κs = search needs
+
+put-natural-requires : tie.Need-put-natural-requires
+put-natural-requires c κs = search needs
+
+put-byte-requires : tie.Need-put-byte-requires
+put-byte-requires c κs = search needs
+
+word : (first out : List ℕ) → out ≡ splice first 0 (114 ∷ 101 ∷ 102 ∷ 117 ∷ 115 ∷ 101 ∷ 100 ∷ []) → Put first out refusedWord 7
+unfolding refusedWord
+word first out e = record { holds = e; place = refl }
+
+add-result : tie.Need-add-result
+add-result c =
+    let n = c .before .before .before .before .before .before in
+    let a = n .before .before .before .before .before .before .before .before .args in
+    omega (arith, n .put-natural .ensures .0, length-natural (a .number), places-most (a .number))
+
+same-length : tie.Need-same-length
+same-length c = search needs
+
+returns : tie.Need-returns
+returns c =
+    let b = c .before .before in
+    let n = b .before .before .before .before in
+    let w = n .before .before .before .before in
+    let a = w .before .before .before .before .args in
+    let p =
+    put-as (refused-text (a .number))
+    (put-one 10
+    (put-more (32 ∷ natural (a .number)) (word (a .out .now) (w .put-bytes .last .0) (w .put-bytes .ensures)) (n .put-natural .ensures .1) (n .put-natural .ensures .0))
+    (b .put-byte .ensures)) in
+    (p .place, p .holds)
+
+pub put-refused-spec : {M : Type 1} → statement M
+put-refused-spec =
+    tie.close
+    (tie.spec
+    slice-aggregate-put-bytes
+    put-bytes-requires
+    put-natural-requires
+    put-byte-requires
+    add-result
+    same-length
+    returns)

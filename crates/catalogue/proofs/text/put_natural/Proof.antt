@@ -1,0 +1,41 @@
+-- `catalogue::text::put_natural` meets its contract: the space, then the digits. Assumes nothing.
+use mathlib.Core.Path.{_≡_, refl, sym, ap, _∙_}
+use mathlib.Core.List.{List, [], _∷_, _++_}
+use Prim.Native.Nat.{ℕ, suc, _+_, _≤_, _<_}
+use native.Mathlib.Omega.{arith}
+use lib.ListN.{length}
+use Rattle.octets.specs.Octets.{splice}
+use Rattle.catalogue.specs.Line.{natural}
+use Rattle.catalogue.proofs.LineLaws.{then-put}
+use borrow.Author.Needs.{needs}
+use Rattle.catalogue.proofs.text.put_natural.Statement.{statement}
+use Rattle.catalogue.proofs.text.put_natural.Tie as tie
+use Rattle.catalogue.proofs.text.put_natural.Reads as reads
+use Rattle.catalogue.proofs.text.put_natural.Lts as lts
+use Rattle.catalogue.proofs.text.put_byte.Reads as put-byte-reads
+use Rattle.catalogue.proofs.text.put_digits.Reads as put-digits-reads
+
+put-byte-requires : tie.Need-put-byte-requires
+put-byte-requires c κs = search needs
+
+add-put-digits : tie.Need-add-put-digits
+add-put-digits c = search needs
+
+put-digits-requires : tie.Need-put-digits-requires
+put-digits-requires c κs = search needs
+
+same-length : tie.Need-same-length
+same-length c = search needs
+
+returns : tie.Need-returns
+returns c =
+    let d = c .before .before in
+    let b = d .before .before .before .before in
+    let a = b .before .before .before .args in (
+      omega (arith, d .put-digits .ensures .0),
+      then-put (a .out .now) (a .at) (a .at + 1) 32 (natural (a .n)) (omega arith) (b .put-byte .ensures) (d .put-digits .ensures .1),
+    )
+
+pub put-natural-spec : {M : Type 1} → statement M
+put-natural-spec =
+    tie.close (tie.spec put-byte-requires add-put-digits put-digits-requires same-length returns)

@@ -1,0 +1,57 @@
+-- The catalogue reader: one step from a place in the lent bytes, and what all the steps give.
+use Prim.Native.Nat.{ℕ, zero, suc, _+_, _-_, _/_}
+use mathlib.Core.List.{List, [], _∷_, map}
+use mathlib.Core.Bool.{Bool, true, false, cond}
+use lib.Dec.{leb, ltb}
+use lib.ListN.{length, take, drop}
+use Rattle.card.specs.declared.Answer.{Answer}
+use Rattle.card.specs.Codec.{cardLength, zeroCard, readCard}
+use Rattle.catalogue.specs.declared.Taken.{Taken}
+
+-- nothing is left at place `at`
+unfoldable pub ended : ℕ → Taken
+ended at = record { number = 0; done = true; card = zeroCard; next = at }
+
+-- what was read, and the place after it
+unfoldable pub stepped : Answer → ℕ → Taken
+stepped a next = record { number = a .number; done = false; card = a .card; next = next }
+
+-- the step at place `at`: the next 88 bytes, a short last part, or done
+unfoldable pub takenAt : List ℕ → ℕ → Taken
+takenAt s at =
+    cond (leb (length s) at) (ended at)
+    (cond (ltb (length s - at) cardLength) (stepped (record { number = 1; card = zeroCard }) (length s))
+    (stepped (readCard (take cardLength (drop at s))) (at + cardLength)))
+
+-- ---- what all the steps give
+
+-- what a caller sees of a step but the place: whether it is done, the number and the card
+abbrev pub Seen : Type 0
+Seen = Bool × Answer
+
+unfoldable pub seen : Taken → Seen
+seen t = (t .done, record { number = t .number; card = t .card })
+
+-- what n steps in a row give, from place `at` on
+unfoldable pub answers : List ℕ → ℕ → ℕ → List Seen
+answers s at zero = []
+answers s at (suc n) = seen (takenAt s at) ∷ answers s (takenAt s at .next) n
+
+-- n parts in a row from place `at` on, 88 bytes each; the last may be short
+unfoldable pub partsFrom : List ℕ → ℕ → ℕ → List (List ℕ)
+partsFrom s at zero = []
+partsFrom s at (suc n) = take cardLength (drop at s) ∷ partsFrom s (at + cardLength) n
+
+-- how many parts a catalogue has, a short last one counted
+unfoldable pub partCount : List ℕ → ℕ
+partCount s = (length s + 87) / cardLength
+
+unfoldable pub parts : List ℕ → List (List ℕ)
+parts s = partsFrom s 0 (partCount s)
+
+-- a part that was read; a short one reads as 1
+unfoldable pub readSeen : List ℕ → Seen
+readSeen part = (false, readCard part)
+
+unfoldable pub doneSeen : Seen
+doneSeen = (true, record { number = 0; card = zeroCard })

@@ -1,0 +1,129 @@
+-- `list::fill` meets its contract: each part passed has taken at most 120 bytes of the text. Assumes nothing.
+use mathlib.Core.Path.{_≡_, refl, sym, ap, _∙_}
+use mathlib.Core.List.{List}
+use Prim.Native.Nat.{ℕ, _+_, _-_, _*_, _/_, _%_, _≤_, _<_, min}
+use native.Mathlib.Omega.{arith}
+use borrow.Author.Needs.{needs}
+use lib.ListN.{length, take, drop}
+use borrow.Rule.Slice.PartMut.{same-len-mid}
+use Rattle.catalogue.specs.Line.{lineOf}
+use Rattle.catalogue.proofs.LineLaws.{line-most}
+use Rattle.list.proofs.fill.Statement.{statement}
+use Rattle.list.proofs.fill.Tie as tie
+
+pub record Filled (parts text₀ text : List ℕ) (filled at : ℕ) : Type 0 where
+  pub size : length parts ≤ 45056
+  pub room : 61440 ≤ length text₀
+  pub kept : length text ≡ length text₀
+  pub within : at ≤ length parts
+  pub steps : at < length parts → at % 88 ≡ 0
+  pub spent : filled ≤ 120 * ((at + 87) / 88)
+
+abbrev Inv-loop : tie.InvT-loop
+Inv-loop parts text₀ filled₀ at₀ text filled at = Filled parts text₀ text filled at
+
+abbrev μ-loop : tie.MeasureT-loop
+μ-loop parts text₀ filled₀ at₀ text filled at = length parts - at
+
+-- before a part: whole parts were passed, and 120 bytes are free
+pub record Before (parts text : List ℕ) (filled at : ℕ) : Type 0 where
+  pub whole : at % 88 ≡ 0
+  pub spent : filled ≤ 120 * (at / 88)
+  pub free : filled + 120 ≤ length text
+
+before : {parts text₀ text : List ℕ} {filled at : ℕ} → at < length parts → Filled parts text₀ text filled at → Before parts text filled at
+before {parts} {text₀} {text} {filled} {at} h p =
+    let w = p .steps h in
+    record { whole = w; spent = omega (arith, p .spent); free = omega (arith, p .spent, p .size, p .room, p .kept) }
+
+next : {parts text₀ text text′ : List ℕ} {filled at end : ℕ} (r : ℕ) → at < length parts → Filled parts text₀ text filled at → end ≡ min (at + 88) (length parts)
+    → r ≤ 120 → length text′ ≡ length text₀ → Filled parts text₀ text′ (filled + r) end
+next {parts} {text₀} {text} {text′} {filled} {at} {end} r h p e l k =
+    let b = before h p in
+    record {
+      size = p .size;
+      room = p .room;
+      kept = k;
+      within = omega arith;
+      steps = λ i. omega (arith, b .whole);
+      spent = omega (arith, b .whole, b .spent);
+    }
+
+ready : (c : tie.In-loop Inv-loop μ-loop)
+    → Before (c .before .before .before .before .args .parts .now) (c .before .loop .text) (c .before .loop .filled) (c .before .loop .at)
+ready c = before (c .loop-test .taken) (c .before .loop .inv)
+
+loop-holds : tie.Need-loop-holds Inv-loop μ-loop
+loop-holds c =
+    let s = c .before .before in
+    record { size = s .pre .0; room = s .pre .1; kept = refl; within = omega arith; steps = λ h. refl; spent = omega arith }
+
+part-end-requires : tie.Need-part-end-requires Inv-loop μ-loop
+part-end-requires c κs = omega arith
+
+sub-line : tie.Need-sub-line Inv-loop μ-loop
+sub-line c = omega (arith, c .part-end .ensures)
+
+part-line-start : tie.Need-part-line-start Inv-loop μ-loop
+part-line-start c = omega (arith, c .part-end .ensures)
+
+part-line-end : tie.Need-part-line-end Inv-loop μ-loop
+part-line-end c = omega (arith, c .part-end .ensures)
+
+sub-line-2 : tie.Need-sub-line-2 Inv-loop μ-loop
+sub-line-2 c = omega (arith, ready (c .before .before) .free)
+
+part-line-start-2 : tie.Need-part-line-start-2 Inv-loop μ-loop
+part-line-start-2 c = omega (arith, ready (c .before .before) .free)
+
+part-line-end-2 : tie.Need-part-line-end-2 Inv-loop μ-loop
+part-line-end-2 c = omega (arith, ready (c .before .before) .free)
+
+line-requires : tie.Need-line-requires Inv-loop μ-loop
+line-requires c κs = search needs
+
+line-short : (c : tie.After-slice-known2 Inv-loop μ-loop) → c .before .before .line .result ≤ 120
+line-short c =
+    let l = c .before .before .before .before .before .before .before .loop in
+    let a = c .before .before .before .before .before .before .before .before .before .before .args in
+    omega (arith, c .before .before .line .ensures .0, line-most (take (c .before .before .before .before .before .part-end .result - l .at) (drop (l .at) (a .parts .now))))
+
+add-filled : tie.Need-add-filled Inv-loop μ-loop
+add-filled c = omega (arith, line-short c, ready (c .before .before .before .before .before .before) .free, c .before .before .before .before .before .before .before .loop .inv .kept, c .before .before .before .before .before .before .before .before .before .before .good)
+
+loop-less : tie.Need-loop-less Inv-loop μ-loop
+loop-less c = omega (arith, c .before .before .before .before .before .part-end .ensures, c .before .before .before .before .before .before .loop-test .taken)
+
+loop-again : tie.Need-loop-again Inv-loop μ-loop
+loop-again c =
+    let l = c .before .before .before .before .before .before .before .loop in
+    next (c .before .before .line .result) (c .before .before .before .before .before .before .loop-test .taken) (l .inv) (c .before .before .before .before .before .part-end .ensures) (line-short c)
+    (same-len-mid (l .filled) (length (l .text) - l .filled) (l .text) (c .before .before .line .last .1 .0) (c .before .before .line .kept .1 .0)
+    ∙ l .inv .kept)
+
+same-length : tie.Need-same-length Inv-loop μ-loop
+same-length c = c .before .loop .inv .kept
+
+returns : tie.Need-returns Inv-loop μ-loop
+returns c = let i = c .before .loop .inv in omega (arith, i .spent, i .within, i .size)
+
+pub fill-spec : {M : Type 1} → statement M
+fill-spec =
+    tie.close
+    (tie.spec
+    Inv-loop
+    μ-loop
+    loop-holds
+    part-end-requires
+    sub-line
+    part-line-start
+    part-line-end
+    sub-line-2
+    part-line-start-2
+    part-line-end-2
+    line-requires
+    add-filled
+    loop-less
+    loop-again
+    same-length
+    returns)

@@ -1,0 +1,231 @@
+-- What the face answers, from the output's length, the record that was read and the call's answer. An accepted call's card is always written.
+use mathlib.Core.Path.{_≡_, refl, sym, ap, _∙_, subst}
+use mathlib.Core.Bool.{Bool, true, false, not, cond}
+use mathlib.Core.List.{List, [], _∷_, _++_}
+use Prim.Native.Nat.{ℕ, zero, suc, _≤_, _<_}
+use native.Mathlib.Omega.{arith}
+use borrow.Author.Tests.{eq-eqb, ne-eqb, le-leb, lt-leb}
+use lib.Dec.{eqb, leb}
+use lib.ListN.{length}
+use Rattle.mark.specs.declared.BodyVector.{BodyVector}
+use Rattle.mark.specs.declared.Body.{Body}
+use Rattle.mark.specs.declared.Body.the-variants.{Moon, Sun}
+use Rattle.mark.specs.Refusal.{first}
+use Rattle.mark.specs.Bodies.{paired}
+use Rattle.mark.proofs.RefusalLaws.{onward}
+use Rattle.card.specs.declared.Card.{Card}
+use Rattle.card.specs.declared.Answer.{Answer}
+use Rattle.card.specs.Checks.{checks, cardNumber}
+use Rattle.card.specs.Codec.{cardLength, encode, decode, readNumber, readCard, zeroCard, writeNumber, written}
+use Rattle.card.specs.Field.{fieldOf, fieldNumber, openedOf, expandedOf, expandCard, exportNumber, exported}
+use Rattle.card.specs.Calls.{Call, solidOn, next, own, callNumber, settle, step}
+use Rattle.card.proofs.CheckLaws.{positive-checks}
+use Rattle.card.proofs.CallLaws.{stays-valid}
+use Rattle.card.proofs.CodecLaws.{write-accepts}
+use Rattle.card.proofs.FieldLaws.{number-expanded}
+use Rattle.card.proofs.AnswerLaws.{put-out}
+use Rattle.netvjesha.specs.Face.{before, roomy, kept, faceNumber, faceOut, bodyOf, solidCall, settledNumber, settledOut, exportedNumber, exportedOut, expandedNumber, expandedOut}
+
+-- ---- one refusal before another
+
+pub one : _≡_ {A = ℕ} 1 0 → ⊥
+one e = omega arith
+
+pub too-short : (l room after : ℕ) → (room ≡ l → ⊥) → 1 ≡ roomy l room after
+unfolding roomy
+too-short l room after h = rw (ne-eqb room l h)
+
+pub long-enough : (l room after : ℕ) → room ≡ l → after ≡ roomy l room after
+unfolding roomy
+long-enough l room after h = rw (eq-eqb room l h)
+
+pub refused-before : (n after : ℕ) → (n ≡ 0 → ⊥) → n ≡ before n after
+unfolding before
+refused-before n after h = rw (ne-eqb n 0 h)
+
+pub passed-before : (n after : ℕ) → n ≡ 0 → after ≡ before n after
+unfolding before
+passed-before n after h = rw (eq-eqb n 0 h)
+
+pub keeps : {A : Type 0} (n m : ℕ) (new old : List A) → n ≡ m → (n ≡ 0 → ⊥) → old ≡ kept m new old
+keeps n m new old e h = rw (← e, ne-eqb n 0 h)
+
+pub takes : {A : Type 0} (n m : ℕ) (new old : List A) → n ≡ m → n ≡ 0 → new ≡ kept m new old
+takes n m new old e h = rw (← e, eq-eqb n 0 h)
+
+-- ---- what a read gives
+
+pub number-read : (s : List ℕ) (a : Answer) → a ≡ readCard s → a .number ≡ readNumber s
+unfolding readCard
+number-read s a e = ap (λ (x : Answer). x .number) e
+
+taken-read : (s : List ℕ) → readNumber s ≡ 0 → readCard s .card ≡ decode s
+unfolding readCard
+taken-read s h = rw h
+
+pub card-read : (s : List ℕ) (a : Answer) → a ≡ readCard s → a .number ≡ 0 → a .card ≡ decode s
+card-read s a e h = ap (λ (x : Answer). x .card) e ∙ taken-read s (sym (number-read s a e) ∙ h)
+
+-- ---- an answer settled
+
+pub settle-refused : (a : Answer) (out : List ℕ) → (a .number ≡ 0 → ⊥) → (a .number ≡ settledNumber a (length out)) × (out ≡ settledOut a out)
+unfolding settledNumber settledOut
+settle-refused a out h = (refused-before (a .number) (writeNumber (a .card) (length out)) h, keeps (a .number) (a .number) (written (a .card) out) out refl h)
+
+pub settle-written : (a : Answer) (out : List ℕ) (n : ℕ) (e : List ℕ) → a .number ≡ 0 → n ≡ writeNumber (a .card) (length out) → e ≡ written (a .card) out
+    → (n ≡ settledNumber a (length out)) × (e ≡ settledOut a out)
+unfolding settledNumber settledOut
+settle-written a out n e h p q = (
+  p ∙ passed-before (a .number) (writeNumber (a .card) (length out)) h,
+  q ∙ takes (a .number) (a .number) (written (a .card) out) out refl h,
+)
+
+-- ---- an answer whose card is valid where its number is 0
+
+abbrev answer : ℕ → Card → Card → Answer
+answer n new old = record { number = n; card = cond (eqb n 0) new old }
+
+settles : (n : ℕ) (new old : Card) (out : List ℕ) → length out ≡ 88 → (n ≡ 0 → cardNumber new ≡ 0)
+    → (settledNumber (answer n new old) (length out) ≡ n) × (settledOut (answer n new old) out ≡ kept n (encode new) out)
+unfolding settledNumber settledOut before
+settles zero new old out l h =
+    let w = write-accepts new (length out) l (h refl) in
+    (w, sym (put-out new out (sym w)))
+settles (suc n) new old out l h = (
+  sym (refused-before (suc n) (writeNumber (cond (eqb (suc n) 0) new old) (length out)) (some n)),
+  sym (keeps (suc n) (suc n) (written (cond (eqb (suc n) 0) new old) out) out refl (some n)) ∙ keeps (suc n) (suc n) (encode new) out refl (some n),
+)
+  where
+    some : (m : ℕ) → suc m ≡ 0 → ⊥
+    some m e = omega arith
+
+step-settles : (c : Card) (k : Call) (out : List ℕ) → length out ≡ 88
+    → (settledNumber (step c k) (length out) ≡ callNumber c k) × (settledOut (step c k) out ≡ kept (callNumber c k) (encode (next c k)) out)
+unfolding step settle
+step-settles c k out l = settles (callNumber c k) (next c k) c out l (stays-valid c k)
+
+-- ---- a call on a card's bytes
+
+module _ (s out : List ℕ) (k : Call) where
+  pub face-short : (length out ≡ 88 → ⊥) → (1 ≡ faceNumber (length out) s k) × (out ≡ faceOut out s k)
+  unfolding faceNumber faceOut
+  face-short h =
+      let e = too-short 88 (length out) (before (readNumber s) (callNumber (decode s) k)) h in
+      (e, keeps 1 (faceNumber (length out) s k) (encode (next (decode s) k)) out e one)
+
+  pub face-unread : (a : Answer) → length out ≡ 88 → a ≡ readCard s → (a .number ≡ 0 → ⊥) → (a .number ≡ faceNumber (length out) s k) × (out ≡ faceOut out s k)
+  unfolding faceNumber faceOut
+  face-unread a l r h =
+      let n = number-read s a r in
+      let e = n ∙ refused-before (readNumber s) (callNumber (decode s) k) (λ z. h (n ∙ z)) ∙ long-enough 88 (length out) (before (readNumber s) (callNumber (decode s) k)) l in
+      (e, keeps (a .number) (faceNumber (length out) s k) (encode (next (decode s) k)) out e h)
+
+  face-is : length out ≡ 88 → readNumber s ≡ 0 → callNumber (decode s) k ≡ faceNumber (length out) s k
+  unfolding faceNumber
+  face-is l h = passed-before (readNumber s) (callNumber (decode s) k) h ∙ long-enough 88 (length out) (before (readNumber s) (callNumber (decode s) k)) l
+
+  face-settled : (n : ℕ) (e : List ℕ) → length out ≡ 88 → readNumber s ≡ 0
+      → n ≡ settledNumber (step (decode s) k) (length out) → e ≡ settledOut (step (decode s) k) out
+      → (n ≡ faceNumber (length out) s k) × (e ≡ faceOut out s k)
+  unfolding faceOut
+  face-settled n e l h p q =
+      let w = step-settles (decode s) k out l in
+      (p ∙ w .0 ∙ face-is l h, q ∙ w .1 ∙ ap (λ (m : ℕ). kept m (encode (next (decode s) k)) out) (face-is l h))
+
+  pub face-called : (a b : Answer) (n : ℕ) (e : List ℕ) → length out ≡ 88 → a ≡ readCard s → a .number ≡ 0 → b ≡ step (a .card) k
+      → n ≡ settledNumber b (length out) → e ≡ settledOut b out
+      → (n ≡ faceNumber (length out) s k) × (e ≡ faceOut out s k)
+  face-called a b n e l r h f p q =
+      let g : b ≡ step (decode s) k = f ∙ ap (λ (c : Card). step c k) (card-read s a r h) in
+      face-settled n e l (sym (number-read s a r) ∙ h)
+      (p ∙ ap (λ (x : Answer). settledNumber x (length out)) g)
+      (q ∙ ap (λ (x : Answer). settledOut x out) g)
+
+-- ---- labels
+
+pub sun-labelled : (l : ℕ) (v : BodyVector) → l ≡ 1 → Sun v ≡ bodyOf l v
+unfolding bodyOf
+sun-labelled l v h = rw (eq-eqb l 1 h)
+
+pub moon-labelled : (l : ℕ) (v : BodyVector) → (l ≡ 1 → ⊥) → Moon v ≡ bodyOf l v
+unfolding bodyOf
+moon-labelled l v h = rw (ne-eqb l 1 h)
+
+module _ (k l : ℕ) (v w : BodyVector) where
+  pub first-other : 1 < k → solidOn (Moon v) (Moon v) ≡ solidCall k v l w
+  unfolding solidCall
+  first-other h = rw (lt-leb k 1 h)
+
+  pub second-other : k ≤ 1 → 1 < l → solidOn (Moon v) (Moon v) ≡ solidCall k v l w
+  unfolding solidCall
+  second-other g h = rw (le-leb k 1 g, lt-leb l 1 h)
+
+  pub both-labelled : k ≤ 1 → l ≤ 1 → solidOn (bodyOf k v) (bodyOf l w) ≡ solidCall k v l w
+  unfolding solidCall
+  both-labelled g h = rw (le-leb k 1 g, le-leb l 1 h)
+
+two-moons : (c : Card) (v : BodyVector) → cardNumber c ≡ 0 → callNumber c (solidOn (Moon v) (Moon v)) ≡ first ((12, not (eqb (c .tide) 0)) ∷ (17, true) ∷ [])
+unfolding callNumber cardNumber own first paired
+two-moons c v h = onward (checks true c) (own c (next c (solidOn (Moon v) (Moon v))) (solidOn (Moon v) (Moon v))) (positive-checks true c) h
+
+-- a label that is neither Moon nor Sun, on an accepted card: 12 where a tide is on, else 17
+pub label-refused : (c : Card) (k l : ℕ) (v w : BodyVector) → cardNumber c ≡ 0 → 1 < k → callNumber c (solidCall k v l w) ≡ first ((12, not (eqb (c .tide) 0)) ∷ (17, true) ∷ [])
+label-refused c k l v w h g = sym (ap (callNumber c) (first-other k l v w g)) ∙ two-moons c v h
+
+pub label-refused-2 : (c : Card) (k l : ℕ) (v w : BodyVector) → cardNumber c ≡ 0 → k ≤ 1 → 1 < l → callNumber c (solidCall k v l w) ≡ first ((12, not (eqb (c .tide) 0)) ∷ (17, true) ∷ [])
+label-refused-2 c k l v w h g f = sym (ap (callNumber c) (second-other k l v w g f)) ∙ two-moons c v h
+
+-- ---- the field edition
+
+module _ (s out : List ℕ) where
+  pub export-short : (length out ≡ 48 → ⊥) → (1 ≡ exportedNumber (length out) s) × (out ≡ exportedOut out s)
+  unfolding exportedNumber exportedOut
+  export-short h =
+      let e = too-short 48 (length out) (before (readNumber s) (exportNumber (decode s) (length out))) h in
+      (e, keeps 1 (exportedNumber (length out) s) (fieldOf (decode s)) out e one)
+
+  pub export-unread : (a : Answer) → length out ≡ 48 → a ≡ readCard s → (a .number ≡ 0 → ⊥) → (a .number ≡ exportedNumber (length out) s) × (out ≡ exportedOut out s)
+  unfolding exportedNumber exportedOut
+  export-unread a l r h =
+      let n = number-read s a r in
+      let e = n ∙ refused-before (readNumber s) (exportNumber (decode s) (length out)) (λ z. h (n ∙ z)) ∙ long-enough 48 (length out) (before (readNumber s) (exportNumber (decode s) (length out))) l in
+      (e, keeps (a .number) (exportedNumber (length out) s) (fieldOf (decode s)) out e h)
+
+  export-is : length out ≡ 48 → readNumber s ≡ 0 → exportNumber (decode s) (length out) ≡ exportedNumber (length out) s
+  unfolding exportedNumber
+  export-is l h = passed-before (readNumber s) (exportNumber (decode s) (length out)) h ∙ long-enough 48 (length out) (before (readNumber s) (exportNumber (decode s) (length out))) l
+
+  pub export-called : (a : Answer) (n : ℕ) (e : List ℕ) → length out ≡ 48 → a ≡ readCard s → a .number ≡ 0
+      → n ≡ exportNumber (a .card) (length out) → e ≡ exported (a .card) out
+      → (n ≡ exportedNumber (length out) s) × (e ≡ exportedOut out s)
+  unfolding exported exportedOut
+  export-called a n e l r h p q =
+      let d = card-read s a r h in
+      let i = export-is l (sym (number-read s a r) ∙ h) in (
+        p ∙ ap (λ (c : Card). exportNumber c (length out)) d ∙ i,
+        q ∙ ap (λ (c : Card). exported c out) d ∙ ap (λ (m : ℕ). kept m (fieldOf (decode s)) out) i,
+      )
+
+  pub expand-short : (length out ≡ 88 → ⊥) → (1 ≡ expandedNumber (length out) s) × (out ≡ expandedOut out s)
+  unfolding expandedNumber expandedOut
+  expand-short h =
+      let e = too-short 88 (length out) (fieldNumber s) h in
+      (e, keeps 1 (expandedNumber (length out) s) (encode (expandedOf (openedOf s))) out e one)
+
+  expand-is : length out ≡ 88 → fieldNumber s ≡ expandedNumber (length out) s
+  unfolding expandedNumber
+  expand-is l = long-enough 88 (length out) (fieldNumber s) l
+
+  expand-settles : length out ≡ 88
+      → (settledNumber (expandCard s) (length out) ≡ fieldNumber s) × (settledOut (expandCard s) out ≡ kept (fieldNumber s) (encode (expandedOf (openedOf s))) out)
+  unfolding expandCard
+  expand-settles l = settles (fieldNumber s) (expandedOf (openedOf s)) zeroCard out l (number-expanded s)
+
+  pub expand-called : (b : Answer) (n : ℕ) (e : List ℕ) → length out ≡ 88 → b ≡ expandCard s → n ≡ settledNumber b (length out) → e ≡ settledOut b out
+      → (n ≡ expandedNumber (length out) s) × (e ≡ expandedOut out s)
+  unfolding expandedOut
+  expand-called b n e l f p q =
+      let w = expand-settles l in (
+        p ∙ ap (λ (x : Answer). settledNumber x (length out)) f ∙ w .0 ∙ expand-is l,
+        q ∙ ap (λ (x : Answer). settledOut x out) f ∙ w .1 ∙ ap (λ (m : ℕ). kept m (encode (expandedOf (openedOf s))) out) (expand-is l),
+      )

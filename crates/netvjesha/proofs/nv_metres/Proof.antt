@@ -1,0 +1,57 @@
+-- `netvjesha::nv_metres` meets its contract: the output's length, the card, then three doubles. Assumes nothing.
+use native.Mathlib.Omega.{arith}
+use borrow.Author.Needs.{needs}
+use lib.ListN.{length-set}
+use Rattle.netvjesha.proofs.TripleLaws.{metres-short, metres-unread, metres-called}
+use Rattle.netvjesha.proofs.nv_metres.Statement.{statement}
+use Rattle.netvjesha.proofs.nv_metres.Tie as tie
+
+returns : tie.Need-returns
+returns c =
+    let a = c .before .before .before .args in
+    metres-short (a .card .now) (a .out .now) (c .if1 .taken)
+
+read-requires : tie.Need-read-requires
+read-requires c κs = search needs
+
+returns-2 : tie.Need-returns-2
+returns-2 c =
+    let r = c .before .before in
+    let a = r .before .before .before .before .args in
+    metres-unread (a .card .now) (a .out .now) (r .read .result) (r .before .if1 .left) (r .read .ensures) (c .if2 .taken)
+
+metres-out-requires : tie.Need-metres-out-requires
+metres-out-requires c κs = search needs
+
+slice-write-out : tie.Need-slice-write-out
+slice-write-out c = search needs
+
+slice-write-out-2 : tie.Need-slice-write-out-2
+slice-write-out-2 c = search needs
+
+slice-write-out-3 : tie.Need-slice-write-out-3
+slice-write-out-3 c = simp length-set (omega (arith, c .before .before .before .before .before .if1 .left))
+
+same-length : tie.Need-same-length
+same-length c = search needs
+
+returns-3 : tie.Need-returns-3
+returns-3 c =
+    let r = c .before .before .before .before in
+    let a = r .before .before .before .before .args in
+    metres-called (a .card .now) (a .out .now) (r .read .result) (c .metres-out .result)
+    (r .before .if1 .left) (r .read .ensures) (c .before .before .if2 .left) (c .metres-out .ensures)
+
+pub nv-metres-spec : {M : Type 1} → statement M
+nv-metres-spec =
+    tie.close
+    (tie.spec
+    returns
+    read-requires
+    returns-2
+    metres-out-requires
+    slice-write-out
+    slice-write-out-2
+    slice-write-out-3
+    same-length
+    returns-3)

@@ -1,0 +1,98 @@
+-- The C face: the output's length first (1), then the record's own checks, then the call's. A refused call leaves the output as it was.
+use Prim.Native.Nat.{ℕ, _+_, _*_, _%_, _^_}
+use mathlib.Core.List.{List, [], _∷_}
+use mathlib.Core.Bool.{Bool, not, cond, _&&_}
+use lib.Dec.{eqb, leb}
+use lib.ListN.{length}
+use lib.IntN.{ℤ}
+use lib.Ieee.{Float}
+use Rattle.mark.specs.declared.Vec3.{Vec3}
+use Rattle.mark.specs.declared.Rows.{Rows}
+use Rattle.mark.specs.declared.BodyVector.{BodyVector}
+use Rattle.mark.specs.declared.Body.{Body}
+use Rattle.mark.specs.declared.Body.the-variants.{Moon, Sun}
+use Rattle.mark.specs.Mark.{vec, markNumber}
+use Rattle.mark.specs.Permanent.{permanent}
+use Rattle.mark.specs.Series.{three, seriesAnswer, seriesNumbers}
+use Rattle.card.specs.declared.Card.{Card}
+use Rattle.card.specs.declared.Answer.{Answer}
+use Rattle.card.specs.declared.Metres.{Metres}
+use Rattle.card.specs.Codec.{cardLength, encode, decode, readNumber, writeNumber, written}
+use Rattle.card.specs.Field.{fieldLength, fieldOf, exportNumber, fieldNumber, openedOf, expandedOf}
+use Rattle.card.specs.Calls.{Call, solidOn, next, callNumber}
+use Rattle.card.specs.MetresOut.{metresOf}
+
+-- a refusal n comes before what follows it
+unfoldable pub before : ℕ → ℕ → ℕ
+before n after = cond (eqb n 0) after n
+
+-- 1 where an output of `room` elements is not of length l, then what follows
+unfoldable pub roomy : ℕ → ℕ → ℕ → ℕ
+roomy l room after = cond (eqb room l) after 1
+
+-- an output under a number: what is written, or what it held. For bytes, doubles and numbers.
+abbrev pub kept : {A : Type 0} → ℕ → List A → List A → List A
+kept n new old = cond (eqb n 0) new old
+
+-- ---- a call on a card's bytes
+
+unfoldable pub faceNumber : ℕ → List ℕ → Call → ℕ
+faceNumber room s k = roomy cardLength room (before (readNumber s) (callNumber (decode s) k))
+
+unfoldable pub faceOut : List ℕ → List ℕ → Call → List ℕ
+faceOut out s k = kept (faceNumber (length out) s k) (encode (next (decode s) k)) out
+
+abbrev pub bodyVector : Float → Float → Float → BodyVector
+bodyVector a b c = record { x = a; y = b; z = c }
+
+-- 0 Moon, 1 Sun
+unfoldable pub bodyOf : ℕ → BodyVector → Body
+bodyOf label v = cond (eqb label 1) (Sun v) (Moon v)
+
+-- a label that is neither makes no pair, and two Moons are none: 17 after 12
+unfoldable pub solidCall : ℕ → BodyVector → ℕ → BodyVector → Call
+solidCall k v l w = cond (leb k 1) (cond (leb l 1) (solidOn (bodyOf k v) (bodyOf l w)) (solidOn (Moon v) (Moon v))) (solidOn (Moon v) (Moon v))
+
+-- an answer's card is written where its number is 0
+unfoldable pub settledNumber : Answer → ℕ → ℕ
+settledNumber a room = before (a .number) (writeNumber (a .card) room)
+
+unfoldable pub settledOut : Answer → List ℕ → List ℕ
+settledOut a out = kept (a .number) (written (a .card) out) out
+
+-- ---- the field edition
+
+unfoldable pub exportedNumber : ℕ → List ℕ → ℕ
+exportedNumber room s = roomy fieldLength room (before (readNumber s) (exportNumber (decode s) room))
+
+unfoldable pub exportedOut : List ℕ → List ℕ → List ℕ
+exportedOut out s = kept (exportedNumber (length out) s) (fieldOf (decode s)) out
+
+unfoldable pub expandedNumber : ℕ → List ℕ → ℕ
+expandedNumber room s = roomy cardLength room (fieldNumber s)
+
+unfoldable pub expandedOut : List ℕ → List ℕ → List ℕ
+expandedOut out s = kept (expandedNumber (length out) s) (encode (expandedOf (openedOf s))) out
+
+-- ---- three doubles, metres from the mark
+
+unfoldable pub threeMetres : Metres → List Float
+threeMetres m = m .x ∷ m .y ∷ m .z ∷ []
+
+unfoldable pub metresNumber : ℕ → List ℕ → ℕ
+metresNumber room s = roomy 3 room (readNumber s)
+
+unfoldable pub metresOut : List Float → List ℕ → List Float
+metresOut out s = kept (metresNumber (length out) s) (threeMetres (metresOf (decode s))) out
+
+-- ---- three numbers, the permanent shift in grains
+
+unfoldable pub permanentNumber : ℕ → Vec3 → ℕ
+permanentNumber room m = roomy 3 room (markNumber m)
+
+unfoldable pub permanentOut : List ℤ → Vec3 → List ℤ
+permanentOut out m = kept (permanentNumber (length out) m) (three (permanent m)) out
+
+-- ---- the series: the number, and from bit 8 on the rows or the bad row. No memory holds 2^56 rows.
+unfoldable pub packed : Rows → ℕ
+packed r = r .number + 256 * (r .row % 2 ^ 56)

@@ -1,0 +1,2 @@
+-- The C face: what each exported function answers, and what the lent storage holds afterwards.
+pub mod Face

@@ -1,0 +1,175 @@
+"""Vectors of the C face for tests/face.c, from the second program: python3 tests/make_face.py > FILE.
+
+A line: the function, its arguments, the length of the output, the number, and what the output holds (`-` or 0 elements when
+refused). The output's length comes first (1), then the record, then the call. A line's form is face.c's.
+"""
+
+import sys
+from pathlib import Path
+
+sys.path.insert(0, str(Path(__file__).resolve().parent.parent / "second"))
+
+import calls
+import damage
+import field
+import gen_bodies
+import sample
+from bodies import MOON, SUN
+from card import read, to_bytes
+from chance import Chance
+from mark import good_mark
+from metres import metres
+from permanent import shift
+from series import series
+from units import METRE, plus, times
+
+ROOMS = (88, 0, 1, 87, 89, 176)
+I_MIN, I_MAX = -(1 << 63), (1 << 63) - 1
+
+
+def text(data):
+    return data.hex() or "-"
+
+
+def words(bits):
+    return " ".join("%016x" % b for b in bits)
+
+
+def line(*parts):
+    print(*parts)
+
+
+def called(record, room, call):
+    """(number, bytes) of a card call through the face."""
+    number, card = (1, None) if room != 88 else read(record)
+    if number == 0:
+        number, card = call(card)
+    return (number, b"") if number else (0, to_bytes(card))
+
+
+def labelled(card, first, second):
+    """Solid on by labels; a label that is neither is 17, after 12."""
+    if {first[0], second[0]} <= {MOON, SUN}:
+        return calls.solid_on(card, first, second)
+    return calls.solid_on(card, (MOON, first[1]), (MOON, first[1]))
+
+
+def card_lines(record, room, rng):
+    """Every card call on one record."""
+    d = rng.choice((0, 1, -1, 1461, rng.randint(-300_000, 300_000), I_MIN, I_MAX, 1 << 32))
+    number, out = called(record, room, lambda c: calls.move(c, d))
+    line("move", text(record), d, room, number, text(out))
+    g = rng.choice((0, 1, 2, 0, 1, 2, 3, 255))
+    number, out = called(record, room, lambda c: calls.frame(c, g))
+    line("frame", text(record), g, room, number, text(out))
+    for name, call in (("mean_on", calls.mean_on), ("mean_off", calls.mean_off), ("solid_off", calls.solid_off)):
+        number, out = called(record, room, call)
+        line(name, text(record), room, number, text(out))
+    solid_line(record, room, (MOON, gen_bodies.good(rng, MOON)), (SUN, gen_bodies.good(rng, SUN)))
+
+
+def solid_line(record, room, first, second):
+    number, out = called(record, room, lambda c: labelled(c, first, second))
+    line("solid_on", text(record), first[0], words(first[1]), second[0], words(second[1]), room, number, text(out))
+
+
+def other_lines(record, rng):
+    """The check, the field edition and the metres of one record."""
+    number, card = read(record)
+    line("check", text(record), number, "-")
+    for room in (48, rng.choice((0, 47, 49, 88))):
+        got, out = (1, b"") if room != 48 else (number, b"") if number else field.export(card, bytes(48))
+        line("export", text(record), room, got, text(b"" if got else out))
+    for room in (3, rng.choice((0, 1, 2, 4))):
+        got, out = (1, ()) if room != 3 else (number, ()) if number else metres(card)
+        line("metres", text(record), room, got, 0 if got else 3, words(() if got else out))
+
+
+def expand_line(record, room):
+    number, card = (1, None) if room != 88 else field.expand(record)
+    line("expand", text(record), room, number, "-" if number else text(to_bytes(card)))
+
+
+def records(rng):
+    """Records of every kind: accepted ones of each tide, one for each number, edges, and wrong lengths."""
+    for tide in (0, 1, 2) * 8:
+        yield to_bytes(sample.card(rng, tide=tide))
+        yield to_bytes(sample.card(rng, tide=tide, most=100 * METRE))
+    for card in list(damage.each_number(rng)) + list(damage.singles(rng)):
+        try:
+            yield to_bytes(card)
+        except Exception:  # a value that no record holds
+            pass
+    good = to_bytes(sample.card(rng, tide=0, most=METRE))
+    for byte in (1, 255):
+        yield good[:11] + bytes((byte,)) + good[12:]
+    for size in (0, 1, 48, 87):
+        yield good[:size]
+    yield good + b"\0"
+    yield bytes(88)
+
+
+def solid_lines(rng):
+    free, mean = (to_bytes(sample.card(rng, tide=t, most=METRE)) for t in (0, 1))
+    for first, second in list(gen_bodies.pairs(rng))[::5] + list(gen_bodies.mixed_pairs(rng)):
+        solid_line(free, 88, first, second)
+    moon, sun = gen_bodies.good(rng, MOON), gen_bodies.good(rng, SUN)
+    for k in (0, 1, 2, 3, 128, 255):
+        for l in (0, 1, 2, 255):
+            solid_line(free, 88, (k, moon), (l, sun))
+            solid_line(mean, 88, (k, moon), (l, sun))
+            solid_line(free, 88, (l, sun), (k, moon))
+
+
+def field_lines(rng):
+    for tide in (0, 1) * 12:
+        card = sample.card(rng, tide=tide)
+        record = field.export(card, bytes(48))[1]
+        for room in (88, rng.choice(ROOMS[1:])):
+            expand_line(record, room)
+        for _ in range(6):
+            at = rng.randrange(48)
+            expand_line(record[:at] + bytes((rng.randrange(256),)) + record[at + 1:], 88)
+    for size in (0, 1, 47):
+        expand_line(record[:size], 88)
+        expand_line(record[:size], 0)
+    expand_line(record + b"\0", 88)
+
+
+def mark_lines(rng):
+    marks = [sample.mark(rng) for _ in range(20)] + list(damage.edge_marks()) + list(damage.wild_marks())
+    for mark in marks:
+        if not all(I_MIN <= v <= I_MAX for v in mark):
+            continue
+        for room in (3, rng.choice((0, 1, 2, 4))):
+            number = 1 if room != 3 else 0 if good_mark(mark) else 6
+            line("permanent", *mark, room, number, 0 if number else 3, *(() if number else shift(mark)))
+        rows = rng.randrange(4)
+        good = [b for _ in range(rows) for b in gen_bodies.good(rng, MOON) + gen_bodies.good(rng, SUN)]
+        series_line(mark, good, 3 * rows)
+        series_line(mark, good + [0], 3 * rows)
+        series_line(mark, good, 3 * rows + rng.choice((1, 2, 3)))
+        if rows:
+            at = rng.randrange(6 * rows)
+            for bad in (0x7FF0 << 48, 0x7FF8 << 48 | 1, 0x41F0 << 48, 1):
+                series_line(mark, good[:at] + [bad] + good[at + 1:], 3 * rows)
+
+
+def series_line(mark, doubles, count):
+    number, row, found = series(mark, doubles, [0] * count)
+    found = [] if number else found
+    line("series", *mark, len(doubles), words(doubles), count, number + 256 * row, len(found), *found)
+
+
+def main():
+    rng = Chance(2026)
+    for record in records(rng):
+        card_lines(record, 88, rng)
+        card_lines(record, rng.choice(ROOMS[1:]), rng)
+        other_lines(record, rng)
+    solid_lines(rng)
+    field_lines(rng)
+    mark_lines(rng)
+
+
+main()
