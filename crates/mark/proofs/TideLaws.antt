@@ -11,8 +11,8 @@ use lib.Dec.{T, leb, leb→le, lit<, lit≤}
 use lib.IntN.{ℤ, pos, natAbs, _+ℤ_, _-ℤ_, _*ℤ_}
 use Rattle.algebra.proofs.Difference.{ℤ⊖}
 use Rattle.algebra.proofs.IntLaws.{abs-+, abs--, abs-*, abs-square}
-use Rattle.number.specs.Near.{nearest, near}
-use Rattle.number.proofs.NearLaws.{near-bound}
+use Rattle.number.specs.Near.{near}
+use Rattle.number.proofs.NearLaws.{near-bound, near-natural}
 use Rattle.mark.specs.declared.Vec3.{Vec3}
 use Rattle.mark.specs.declared.BodyVector.{BodyVector}
 use Rattle.mark.specs.Mark.{E, times, lengthOf}
@@ -69,9 +69,10 @@ unfolding legendre
 legendre-bound m h =
     near-bound (pos 3 *ℤ pos m -ℤ pos E) 2 (E + 548) (legendre-small m E ((E + 548) * 2) (omega arith) (lit≤ tt))
 
-square-is : (c : ℤ) → times c c ≡ pos (nearest (natAbs c * natAbs c) E)
-unfolding times near
-square-is c = ap (λ (z : ℤ). near z E) (abs-square c)
+square-is : (c : ℤ) → times c c ≡ pos (natAbs (times c c))
+unfolding times
+square-is c =
+    subst (λ (z : ℤ). near z E ≡ pos (natAbs (near z E))) (sym (abs-square c)) (near-natural (natAbs c * natAbs c) E)
 
 pub square-bound : (c : ℤ) → natAbs c ≤ E + 182 → natAbs (times c c) ≤ E + 365
 square-bound c h = times-bound c c (E + 182) (E + 182) (E + 365) h h (lit≤ tt)
@@ -80,8 +81,7 @@ pub height-bound : (c : ℤ) → natAbs c ≤ E + 182 → natAbs (height c) ≤ 
 unfolding height
 height-bound c h =
     subst (λ (z : ℤ). natAbs (legendre z) ≤ E + 548) (sym (square-is c))
-    (legendre-bound (nearest (natAbs c * natAbs c) E)
-    (subst (λ (z : ℤ). natAbs z ≤ E + 365) (square-is c) (square-bound c h)))
+    (legendre-bound (natAbs (times c c)) (square-bound c h))
 
 -- ---- a part
 

@@ -1,5 +1,5 @@
--- The laws of `near`: off by at most a half, exact at multiples, odd, the same for equal fractions, and no larger than a whole
--- bound. Nothing above may use more, so that another rule for halves changes this file and nothing else.
+-- The laws of `near`: off by at most a half, exact at multiples, odd, the same for equal fractions, not negative where the fraction is
+-- not, and no larger than a whole bound. Nothing above may use more, so that another rule for halves changes this file and nothing else.
 use mathlib.Core.Path.{_≡_, refl, sym, ap, _∙_, subst}
 use Prim.Native.Nat.{ℕ, zero, suc, _+_, _-_, _*_, _/_, _%_, _≤_, _<_, zero-le}
 use native.Mathlib.Nat.{mul-comm, le-of-suc-le-suc, div-eq-of-lt-le, mul-div-mul-left, div-mul-le-self, lt-div-mul-add, div-lt-iff-lt-mul, le-div-iff-mul-le, div-zero, eq-zero-or-pos, div-add-mod', mod-lt, le-mul-of-pos-right}
@@ -127,6 +127,11 @@ near-same a b c d B D e =
     ∙ ap (λ (x : ℤ). near x (d * b)) e
     ∙ ap (λ (x : ℕ). near (pos b *ℤ c) x) (mul-comm d b)
     ∙ near-scale b c d B
+
+-- what is not negative stays so
+pub near-natural : (n b : ℕ) → near (pos n) b ≡ pos (natAbs (near (pos n) b))
+unfolding near
+near-natural n b = refl
 
 -- no larger than a whole bound
 pub near-bound : (a : ℤ) (b k : ℕ) → natAbs a ≤ k * b → natAbs (near a b) ≤ k
