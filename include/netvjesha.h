@@ -3,14 +3,15 @@
  * Units      1,461 grains are a micrometre, 1,461,000,000 grains a metre.
  *            Time is whole quarter-days from 2000.0; 1,461 of them are a year.
  * Card       88 bytes. Field record: 48 bytes. Both big-endian, two's complement.
- * Status     Every function answers a number, 0 when it accepts. The numbers beside a function stand in the order in which
- *            they are looked for, and the first that is met is given. A refused call writes nothing.
+ * Status     Every function but nv_find answers a number, 0 when it accepts. The numbers beside a function stand in the order
+ *            in which they are looked for, and the first that is met is given. A refused call writes nothing.
  * Slices     A pointer and a count of elements. A count of 0 may come with NULL. Input and output must not overlap.
  *
  *  1 a length          2 site              3 unknown frame          4 byte 10, a zero byte, or a tide vector with no tide on
  *  5 epoch             6 mark              7 velocity               8 position too far from the mark
  *  9 tide vector      10 body not finite  11 body out of range     12 tide already so, not on, or of the other kind
- * 13 move with solid tide on              16 series lengths        17 not one Moon and one Sun
+ * 13 move with solid tide on              14 catalogue's length    15 not in the catalogue
+ * 16 series lengths                       17 not one Moon and one Sun
  */
 #ifndef NETVJESHA_H
 #define NETVJESHA_H
@@ -73,6 +74,15 @@ uint32_t nv_export(const uint8_t *card, size_t card_len, uint8_t *field, size_t 
 /* Writes the card of a field record, 88 bytes, with no solid tide.
  * Status: 1 out_len is not 88; then 1 field_len is not 48; then 2, 3, 4, 5, 6, 7, 8 of the record. */
 uint32_t nv_expand(const uint8_t *field, size_t field_len, uint8_t *out, size_t out_len);
+
+/* ---- Catalogues: cards one after another, 88 bytes each, no header ---- */
+
+/* Looks a site up: the first record whose first nine bytes are the key's. The record itself is not judged; nv_check does that.
+ * Status: 2 the key is not nine bytes of a site's shape; then 14 len is no multiple of 88; then 15 no such record. */
+uint32_t nv_find_number(const uint8_t *catalogue, size_t len, const uint8_t *key, size_t key_len);
+
+/* Where that record begins, in bytes from the catalogue's start: a multiple of 88 below len. Answers len when refused. */
+size_t nv_find(const uint8_t *catalogue, size_t len, const uint8_t *key, size_t key_len);
 
 /* ---- Displacements ---- */
 

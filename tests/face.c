@@ -18,7 +18,7 @@ struct lent {
     void *at;
 };
 
-static struct lent in, out;
+static struct lent in, key, out;
 static unsigned long line, passed;
 static char name[32], word[2 * MOST + 2];
 
@@ -69,14 +69,16 @@ static size_t hex(unsigned char *to)
     return n;
 }
 
-static void input_bytes(void)
+static void bytes_into(struct lent *l)
 {
     unsigned char bytes[MOST];
     size_t n = hex(bytes);
-    lend(&in, n);
-    memcpy(in.all + GUARD, bytes, n);
-    memcpy(in.want, bytes, n);
+    lend(l, n);
+    memcpy(l->all + GUARD, bytes, n);
+    memcpy(l->want, bytes, n);
 }
+
+static void input_bytes(void) { bytes_into(&in); }
 
 static void input_doubles(void)
 {
@@ -172,6 +174,18 @@ static void series(void)
     expect(nv_series(x, y, z, in.at, in.size / 8, out.at, out.size / 8), NUMBERS);
 }
 
+/* A lookup's place, then its number; nothing is lent to be written. */
+static void find(void)
+{
+    bytes_into(&key);
+    input_bytes();
+    lend(&out, 0);
+    expect(nv_find(in.at, in.size, key.at, key.size), BYTES);
+    whole(&key, "the key was written");
+    expect(nv_find_number(in.at, in.size, key.at, key.size), BYTES);
+    whole(&key, "the key was written");
+}
+
 int main(void)
 {
     while (scanf("%31s", name) == 1) {
@@ -183,6 +197,7 @@ int main(void)
         } else if (!strcmp(name, "metres")) metres();
         else if (!strcmp(name, "permanent")) permanent();
         else if (!strcmp(name, "series")) series();
+        else if (!strcmp(name, "find")) find();
         else card_call();
     }
     if (passed == 0) stop("no vectors");

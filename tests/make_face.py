@@ -13,9 +13,11 @@ import calls
 import damage
 import field
 import gen_bodies
+import gen_catalogue
 import sample
 from bodies import MOON, SUN
-from card import read, to_bytes
+from card import SIZE, read, to_bytes
+from catalogue import lookup
 from chance import Chance
 from mark import good_mark
 from metres import metres
@@ -161,6 +163,21 @@ def series_line(mark, doubles, count):
     line("series", *mark, len(doubles), words(doubles), count, number + 256 * row, len(found), *found)
 
 
+def place_of(catalogue, key, number, part):
+    """A lookup's place in bytes: of the first record that is the part found, or the catalogue's length when refused."""
+    if number:
+        return len(catalogue)
+    return next(at for at in range(0, len(catalogue), SIZE) if catalogue[at:at + 9] == key and catalogue[at:at + SIZE] == part)
+
+
+def find_lines(rng):
+    for payload in gen_catalogue.lookups(rng):
+        size = int.from_bytes(payload[:4], "big")
+        key, catalogue = payload[4:4 + size], payload[4 + size:]
+        number, part = lookup(catalogue, key)
+        line("find", text(key), text(catalogue), place_of(catalogue, key, number, part), "-", number, "-")
+
+
 def main():
     rng = Chance(2026)
     for record in records(rng):
@@ -170,6 +187,7 @@ def main():
     solid_lines(rng)
     field_lines(rng)
     mark_lines(rng)
+    find_lines(rng)
 
 
 main()

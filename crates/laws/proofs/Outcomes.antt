@@ -1,10 +1,14 @@
 -- Each function that the outside can call has one outcome: what it answers, and what lent storage holds afterwards.
 use mathlib.Core.Path.{_≡_, sym, _∙_}
+use mathlib.Core.List.{List}
+use Prim.Native.Nat.{ℕ}
 use Rattle.number.proofs as number
 use Rattle.octets.proofs as octets
 use Rattle.mark.proofs as mark
 use Rattle.card.proofs as card
-use Rattle.laws.specs.OneOutcome.{OneOutcome}
+use Rattle.catalogue.proofs as catalogue
+use Rattle.netvjesha.proofs as netvjesha
+use Rattle.laws.specs.OneOutcome.{OneOutcome, OneShown}
 
 -- both equal what the promise says
 same : {A : Type 0} {x y z : A} → x ≡ z → y ≡ z → x ≡ y
@@ -75,6 +79,27 @@ solid-on-one κs a z z′ w w′ p q i = (same p q i, w)
 pub solid-off-one : OneOutcome 0 card.Card.solid_off.Kinds.ps card.Card.solid_off.Kinds.r card.Card.solid_off.Reads.Learnt
 solid-off-one κs a z z′ w w′ p q i = (same p q i, w)
 
+pub is-site-one : OneOutcome 1 card.is_site.Kinds.ps card.is_site.Kinds.r card.is_site.Reads.Learnt
+is-site-one κs a z z′ w w′ p q i = (same p q i, w)
+
+pub find-number-one : OneOutcome 2 catalogue.find_number.Kinds.ps catalogue.find_number.Kinds.r catalogue.find_number.Reads.Learnt
+find-number-one κs a z z′ w w′ p q i = (same p q i, w)
+
+pub find-place-one : OneOutcome 2 catalogue.find_place.Kinds.ps catalogue.find_place.Kinds.r catalogue.find_place.Reads.Learnt
+find-place-one κs a z z′ w w′ p q i = (same p q i, w)
+
+pub take-at-one : OneOutcome 1 catalogue.take_at.Kinds.ps catalogue.take_at.Kinds.r catalogue.take_at.Reads.Learnt
+take-at-one κs a z z′ w w′ p q i = (same p q i, w)
+
+pub nv-check-one : OneOutcome 1 netvjesha.nv_check.Kinds.ps netvjesha.nv_check.Kinds.r netvjesha.nv_check.Reads.Learnt
+nv-check-one κs a z z′ w w′ p q i = (same p q i, w)
+
+pub nv-find-one : OneOutcome 2 netvjesha.nv_find.Kinds.ps netvjesha.nv_find.Kinds.r netvjesha.nv_find.Reads.Learnt
+nv-find-one κs a z z′ w w′ p q i = (same p q i, w)
+
+pub nv-find-number-one : OneOutcome 2 netvjesha.nv_find_number.Kinds.ps netvjesha.nv_find_number.Kinds.r netvjesha.nv_find_number.Reads.Learnt
+nv-find-number-one κs a z z′ w w′ p q i = (same p q i, w)
+
 -- ---- lent storage
 
 pub put-signed-one : OneOutcome 1 octets.put_signed.Kinds.ps octets.put_signed.Kinds.r octets.put_signed.Reads.Learnt
@@ -91,3 +116,42 @@ write-one κs a z z′ w w′ p q i = (same (p .0) (q .0) i, (w .0, (same (p .1)
 
 pub export-one : OneOutcome 1 card.export.Kinds.ps card.export.Kinds.r card.export.Reads.Learnt
 export-one κs a z z′ w w′ p q i = (same (p .0) (q .0) i, (w .0, (same (p .1) (q .1) i, w .1 .1)))
+
+pub line-one : OneOutcome 2 catalogue.line.Kinds.ps catalogue.line.Kinds.r catalogue.line.Reads.Learnt
+line-one κs a z z′ w w′ p q i = (same (p .0) (q .0) i, (w .0, (same (p .1) (q .1) i, w .1 .1)))
+
+pub nv-move-one : OneOutcome 2 netvjesha.nv_move.Kinds.ps netvjesha.nv_move.Kinds.r netvjesha.nv_move.Reads.Learnt
+nv-move-one κs a z z′ w w′ p q i = (same (p .0) (q .0) i, (w .0, (w .1 .0, (same (p .1) (q .1) i, w .1 .1 .1))))
+
+pub nv-frame-one : OneOutcome 2 netvjesha.nv_frame.Kinds.ps netvjesha.nv_frame.Kinds.r netvjesha.nv_frame.Reads.Learnt
+nv-frame-one κs a z z′ w w′ p q i = (same (p .0) (q .0) i, (w .0, (w .1 .0, (same (p .1) (q .1) i, w .1 .1 .1))))
+
+pub nv-mean-on-one : OneOutcome 2 netvjesha.nv_mean_on.Kinds.ps netvjesha.nv_mean_on.Kinds.r netvjesha.nv_mean_on.Reads.Learnt
+nv-mean-on-one κs a z z′ w w′ p q i = (same (p .0) (q .0) i, (w .0, (same (p .1) (q .1) i, w .1 .1)))
+
+pub nv-mean-off-one : OneOutcome 2 netvjesha.nv_mean_off.Kinds.ps netvjesha.nv_mean_off.Kinds.r netvjesha.nv_mean_off.Reads.Learnt
+nv-mean-off-one κs a z z′ w w′ p q i = (same (p .0) (q .0) i, (w .0, (same (p .1) (q .1) i, w .1 .1)))
+
+pub nv-solid-off-one : OneOutcome 2 netvjesha.nv_solid_off.Kinds.ps netvjesha.nv_solid_off.Kinds.r netvjesha.nv_solid_off.Reads.Learnt
+nv-solid-off-one κs a z z′ w w′ p q i = (same (p .0) (q .0) i, (w .0, (same (p .1) (q .1) i, w .1 .1)))
+
+pub nv-solid-on-one : OneOutcome 2 netvjesha.nv_solid_on.Kinds.ps netvjesha.nv_solid_on.Kinds.r netvjesha.nv_solid_on.Reads.Learnt
+nv-solid-on-one κs a z z′ w w′ p q i = (same (p .0) (q .0) i, (w .0, (w .1 .0, (w .1 .1 .0, (w .1 .1 .1 .0, (w .1 .1 .1 .1 .0, (w .1 .1 .1 .1 .1 .0, (w .1 .1 .1 .1 .1 .1 .0, (w .1 .1 .1 .1 .1 .1 .1 .0, (w .1 .1 .1 .1 .1 .1 .1 .1 .0, (same (p .1) (q .1) i, w .1 .1 .1 .1 .1 .1 .1 .1 .1 .1)))))))))))
+
+pub nv-export-one : OneOutcome 2 netvjesha.nv_export.Kinds.ps netvjesha.nv_export.Kinds.r netvjesha.nv_export.Reads.Learnt
+nv-export-one κs a z z′ w w′ p q i = (same (p .0) (q .0) i, (w .0, (same (p .1) (q .1) i, w .1 .1)))
+
+pub nv-expand-one : OneOutcome 2 netvjesha.nv_expand.Kinds.ps netvjesha.nv_expand.Kinds.r netvjesha.nv_expand.Reads.Learnt
+nv-expand-one κs a z z′ w w′ p q i = (same (p .0) (q .0) i, (w .0, (same (p .1) (q .1) i, w .1 .1)))
+
+pub nv-metres-one : OneOutcome 2 netvjesha.nv_metres.Kinds.ps netvjesha.nv_metres.Kinds.r netvjesha.nv_metres.Reads.Learnt
+nv-metres-one κs a z z′ w w′ p q i = (same (p .0) (q .0) i, (w .0, (same (p .1) (q .1) i, w .1 .1)))
+
+pub nv-permanent-one : OneOutcome 1 netvjesha.nv_permanent.Kinds.ps netvjesha.nv_permanent.Kinds.r netvjesha.nv_permanent.Reads.Learnt
+nv-permanent-one κs a z z′ w w′ p q i = (same (p .0) (q .0) i, (w .0, (w .1 .0, (w .1 .1 .0, (same (p .1) (q .1) i, w .1 .1 .1 .1)))))
+
+pub nv-series-one : OneOutcome 2 netvjesha.nv_series.Kinds.ps netvjesha.nv_series.Kinds.r netvjesha.nv_series.Reads.Learnt
+nv-series-one κs a z z′ w w′ p q i = (same (p .0) (q .0) i, (w .0, (w .1 .0, (w .1 .1 .0, (w .1 .1 .1 .0, (same (p .1) (q .1) i, w .1 .1 .1 .1 .1))))))
+
+pub find-one : OneShown 2 catalogue.find.Kinds.ps catalogue.find.Kinds.r catalogue.find.Reads.Learnt (λ κs. (ℕ × ℕ) × List ℕ) (λ κs x. (x .ptr, x .now))
+find-one κs a z z′ w w′ p q i = ((same (p .1) (q .1) i, same (p .0) (q .0) i), w)

@@ -6,10 +6,15 @@ use contract.Lifetimes.{Lfts}
 use denote.Triple.Clauses.{Lasts, atExit}
 use borrow.Fn.Kinds.{PK, RK, Dens, Out, resT, endedOf}
 
--- P is all that a caller learns of a call, of its arguments a, its result z and the last values w of what it was lent
-abbrev pub OneOutcome : (n : ℕ) (ps : List (PK n)) (r : RK n) → Out n ps r → Type 0
-OneOutcome n ps r P =
+-- P is all that a caller learns of a call, of its arguments a, its result z and the last values w of what it was lent.
+-- Two outcomes are equal in what `show` shows of the result, and in what lent storage holds.
+abbrev pub OneShown : (n : ℕ) (ps : List (PK n)) (r : RK n) → Out n ps r → (S : Lfts n → Type 0) → ((κs : Lfts n) → resT r κs .Denot → S κs) → Type 0
+OneShown n ps r P S show =
     (κs : Lfts n) (a : Dens κs ps) (z z′ : resT r κs .Denot) (w w′ : Lasts (endedOf n ps r) κs a)
     → P κs a z (atExit (endedOf n ps r) κs a w)
     → P κs a z′ (atExit (endedOf n ps r) κs a w′)
-    → _≡_ {A = resT r κs .Denot × Lasts (endedOf n ps r) κs a} (z, w) (z′, w′)
+    → _≡_ {A = S κs × Lasts (endedOf n ps r) κs a} (show κs z, w) (show κs z′, w′)
+
+-- all of the result
+abbrev pub OneOutcome : (n : ℕ) (ps : List (PK n)) (r : RK n) → Out n ps r → Type 0
+OneOutcome n ps r P = OneShown n ps r P (λ κs. resT r κs .Denot) (λ κs z. z)

@@ -6,6 +6,7 @@ ghost use Rattle.mark.specs.Mark as M;
 ghost use Rattle.mark.specs.Series as S;
 ghost use Rattle.card.specs.Codec as C;
 ghost use Rattle.card.specs.Calls as L;
+ghost use Rattle.catalogue.specs.Lookup as K;
 ghost use Rattle.netvjesha.specs.Face as F;
 use card::Answer;
 use card::Card;
@@ -265,4 +266,20 @@ pub extern "C" fn nv_series(x: i64, y: i64, z: i64, bodies: &[f64], out: &mut [i
     let number = s.number;
     let row = s.row;
     number as u64 + 256 * (row as u64 % 72057594037927936)
+}
+
+// Where the first record with the key's nine bytes begins in a catalogue, in bytes. Refused, the catalogue's length.
+#[no_mangle]
+pub extern "C" fn nv_find(catalogue: &[u8], key: &[u8]) -> usize
+    ensures { λ r. ⌜ r ≡ K.findPlace (now (catalogue .entry)) (now (key .entry)) ⌝ }
+{
+    catalogue::find_place(catalogue, key)
+}
+
+// The number of that lookup: 2, then 14, then 15, and 0 when found.
+#[no_mangle]
+pub extern "C" fn nv_find_number(catalogue: &[u8], key: &[u8]) -> u32
+    ensures { λ r. ⌜ r ≡ K.findNumber (now (catalogue .entry)) (now (key .entry)) ⌝ }
+{
+    catalogue::find_number(catalogue, key)
 }
