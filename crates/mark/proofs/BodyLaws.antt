@@ -14,11 +14,12 @@ use Rattle.mark.specs.declared.Body.{Body}
 use Rattle.mark.specs.declared.Body.the-variants.{Moon, Sun}
 use Rattle.mark.specs.declared.Shift.{Shift}
 use Rattle.mark.specs.Refusal.{choose, first}
-use Rattle.mark.specs.Mark.{nowhere, each, marked, between, lengthOf, lengthWithin}
+use Rattle.mark.specs.Mark.{nowhere, each, marked, between, lengthOf, squaresWithin}
+use Rattle.mark.specs.Mark as Mark
 use Rattle.mark.specs.Bodies.{wholes, finite, inReach, paired, moonOf, sunOf, clipped, seenOf, bothOf}
 use Rattle.mark.specs.Tide.{tide, bodiesNumber, tideNumber, tideAnswer}
 use Rattle.mark.specs.Ranges.{Within}
-use Rattle.mark.proofs.LengthLaws.{vec≡, within-length, length-zero, length-some}
+use Rattle.mark.proofs.LengthLaws.{vec≡, within-length, squares-zero, squares-some}
 
 -- ---- either order
 
@@ -41,7 +42,7 @@ pub record Sighted (low high : ℕ) (v : BodyVector) : Type 0 where
   pub sound : finite v ≡ true
   pub near : between low high (lengthOf (wholes v)) ≡ true
   pub at : seenOf low high v .at ≡ wholes v
-  pub r : seenOf low high v .r ≡ lengthOf (wholes v)
+  pub squares : seenOf low high v .squares ≡ Mark.squares (wholes v)
 
 accepted : (f g : Bool) → choose (not f) 10 (choose (not g) 11 0) ≡ 0 → (f ≡ true) × (g ≡ true)
 accepted true true e = (refl, refl)
@@ -51,8 +52,8 @@ accepted false g e = absurd (eqb-false 10 0 refl e)
 seen-at : (w : Vec3) (f g : Bool) → f ≡ true → g ≡ true → cond (f && g) w nowhere ≡ w
 seen-at w f g p q = rw (p, q)
 
-seen-r : (n : ℕ) (f g : Bool) → f ≡ true → g ≡ true → cond (f && g) n 0 ≡ n
-seen-r n f g p q = rw (p, q)
+seen-squares : (n : ℕ) (f g : Bool) → f ≡ true → g ≡ true → cond (f && g) n 0 ≡ n
+seen-squares n f g p q = rw (p, q)
 
 pub sighted : (low high : ℕ) (v : BodyVector) → seenOf low high v .number ≡ 0 → Sighted low high v
 unfolding seenOf first
@@ -60,7 +61,7 @@ sighted low high v e =
     let f : Bool = finite v in
     let g : Bool = between low high (lengthOf (wholes v)) in
     let h = accepted f g e in
-    record { sound = h .0; near = h .1; at = seen-at (wholes v) f g (h .0) (h .1); r = seen-r (lengthOf (wholes v)) f g (h .0) (h .1) }
+    record { sound = h .0; near = h .1; at = seen-at (wholes v) f g (h .0) (h .1); squares = seen-squares (Mark.squares (wholes v)) f g (h .0) (h .1) }
 
 -- ---- a component past 2^30 stands for every one: it is out of reach as well
 
@@ -95,19 +96,19 @@ not-between low high n h l = rw (lt-leb n high (omega arith)) (and-false (leb lo
 
 module _ (low high : ℕ) (v : Vec3) (h : high < 2 ^ 30) where
   -- the clipped vector has no length in the range: no more has the vector
-  pub clipped-out : 0 < low → lengthWithin low high (each clipped v) ≡ 0 → between low high (lengthOf v) ≡ false
+  pub clipped-out : 0 < low → squaresWithin low high (each clipped v) ≡ 0 → between low high (lengthOf v) ≡ false
   clipped-out l e = go (clip-each v)
     where
       go : (each clipped v ≡ v) ⊎ ((2 ^ 30 < lengthOf v) × (2 ^ 30 < lengthOf (each clipped v))) → between low high (lengthOf v) ≡ false
-      go (inl p) = length-zero low high v l (sym (ap (lengthWithin low high) p) ∙ e)
+      go (inl p) = squares-zero low high v l (sym (ap (squaresWithin low high) p) ∙ e)
       go (inr p) = not-between low high (lengthOf v) h (p .0)
 
   -- it has one: it is the vector itself
-  pub clipped-in : (lengthWithin low high (each clipped v) ≡ 0 → ⊥) → (between low high (lengthOf v) ≡ true) × (each clipped v ≡ v)
+  pub clipped-in : (squaresWithin low high (each clipped v) ≡ 0 → ⊥) → (between low high (lengthOf v) ≡ true) × (each clipped v ≡ v)
   clipped-in f = go (clip-each v)
     where
       some : between low high (lengthOf (each clipped v)) ≡ true
-      some = length-some low high (each clipped v) f
+      some = squares-some low high (each clipped v) f
 
       go : (each clipped v ≡ v) ⊎ ((2 ^ 30 < lengthOf v) × (2 ^ 30 < lengthOf (each clipped v))) → (between low high (lengthOf v) ≡ true) × (each clipped v ≡ v)
       go (inl p) = (sym (ap (λ (w : Vec3). between low high (lengthOf w)) p) ∙ some, p)

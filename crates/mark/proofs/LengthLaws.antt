@@ -1,17 +1,17 @@
--- A vector and its whole length: each component is at most the length; an answer of `whole_length` of 0 says that the length is not in the
--- range, any other that it is the length.
-use mathlib.Core.Path.{_≡_, refl}
+-- A vector and its whole length: each component is at most the length. A length in a range, and the same of the sum of squares: 0 where it is
+-- not in the range, else the length or the sum.
+use mathlib.Core.Path.{_≡_, refl, sym}
 use mathlib.Core.Bool.{Bool, true, false, not, cond, _&&_, false≢true}
 use Prim.Native.Nat.{ℕ, _+_, _*_, _≤_, _<_}
 use native.Mathlib.Nat.{le-trans, mul-le-mul}
 use native.Mathlib.Omega.{arith}
 use borrow.Author.Tests.{leb-true, le-leb, lt-leb}
-use lib.Dec.{T, leb, ltb, ltb→lt, nltb→le}
+use lib.Dec.{leb, lit<, lit≤}
 use lib.IntN.{ℤ, natAbs}
 use Rattle.number.specs.Root.{root}
-use Rattle.number.proofs.RootLaws.{root-is}
+use Rattle.number.proofs.RootLaws.{root-is, root-same, root-least, root-below}
 use Rattle.mark.specs.declared.Vec3.{Vec3}
-use Rattle.mark.specs.Mark.{vec, squares, between, lengthOf, lengthWithin}
+use Rattle.mark.specs.Mark.{vec, squares, between, lengthOf, squaresWithin, lengthWithin}
 use Rattle.mark.specs.Ranges.{Within}
 
 -- ---- vectors
@@ -22,16 +22,6 @@ vec≡ p q r = cc
 pub widen : {n k : ℕ} {v : Vec3} → Within n v → n ≤ k → Within k v
 widen w h = record { x = le-trans (w .x) h; y = le-trans (w .y) h; z = le-trans (w .z) h }
 
-below : (x r n : ℕ) → x * x ≤ n → n < (r + 1) * (r + 1) → x ≤ r
-below x r n h k = go (ltb r x) (ltb→lt r x) (nltb→le r x)
-  where
-    go : (t : Bool) → (T t → r < x) → (T (not t) → x ≤ r) → x ≤ r
-    go true f g =
-        let l : r + 1 ≤ x = (let e : r < x = f tt in omega arith) in
-        let p : (r + 1) * (r + 1) ≤ x * x = mul-le-mul l l in
-        absurd (omega arith)
-    go false f g = g tt
-
 -- each component is at most the whole length
 pub within-length : (v : Vec3) → Within (lengthOf v) v
 unfolding squares lengthOf
@@ -40,12 +30,7 @@ within-length v =
     let y : ℕ = natAbs (v .y) in
     let z : ℕ = natAbs (v .z) in
     let n : ℕ = x * x + y * y + z * z in
-    let h : n < (root n + 1) * (root n + 1) = root-is n .above in
-    record {
-      x = below x (root n) n (omega arith) h;
-      y = below y (root n) n (omega arith) h;
-      z = below z (root n) n (omega arith) h;
-    }
+    record { x = root-least n x (omega arith); y = root-least n y (omega arith); z = root-least n z (omega arith) }
 
 -- ---- a length in a range
 
@@ -63,38 +48,76 @@ at-least low high n e = leb-true low n (and-left (leb low n) (leb n high) e)
 pub at-most : (low high n : ℕ) → between low high n ≡ true → n ≤ high
 at-most low high n e = leb-true n high (and-right (leb low n) (leb n high) e)
 
-pub length-zero : (low high : ℕ) (v : Vec3) → 0 < low → lengthWithin low high v ≡ 0 → between low high (lengthOf v) ≡ false
-unfolding lengthWithin
-length-zero low high v h e = go (between low high (lengthOf v)) refl e
-  where
-    go : (t : Bool) → between low high (lengthOf v) ≡ t → cond t (lengthOf v) 0 ≡ 0 → t ≡ false
-    go true p q = let l : low ≤ lengthOf v = at-least low high (lengthOf v) p in absurd (omega arith)
-    go false p q = refl
+-- what is 0 outside the range, and not 0 in it
+zero-outside : (b : Bool) (n : ℕ) → (b ≡ true → 0 < n) → cond b n 0 ≡ 0 → b ≡ false
+zero-outside true n h e = absurd (let l : 0 < n = h refl in omega arith)
+zero-outside false n h e = refl
 
-pub length-some : (low high : ℕ) (v : Vec3) → (lengthWithin low high v ≡ 0 → ⊥) → between low high (lengthOf v) ≡ true
-unfolding lengthWithin
-length-some low high v h = go (between low high (lengthOf v)) h
-  where
-    go : (t : Bool) → (cond t (lengthOf v) 0 ≡ 0 → ⊥) → t ≡ true
-    go true p = refl
-    go false p = absurd (p refl)
+some-inside : (b : Bool) (n : ℕ) → (cond b n 0 ≡ 0 → ⊥) → b ≡ true
+some-inside true n h = refl
+some-inside false n h = absurd (h refl)
 
-pub length-is : (low high : ℕ) (v : Vec3) → between low high (lengthOf v) ≡ true → lengthWithin low high v ≡ lengthOf v
-unfolding lengthWithin
-length-is low high v e = rw e
+module _ (low high : ℕ) (v : Vec3) where
+  abbrev in-range : Bool
+  in-range = between low high (lengthOf v)
 
-pub length-below : (low high : ℕ) (v : Vec3) → lengthOf v < low → lengthWithin low high v ≡ 0
-unfolding lengthWithin
-length-below low high v h = rw (lt-leb low (lengthOf v) h)
+  pub length-zero : 0 < low → lengthWithin low high v ≡ 0 → in-range ≡ false
+  unfolding lengthWithin
+  length-zero h e = zero-outside in-range (lengthOf v) (λ t. omega (arith, at-least low high (lengthOf v) t)) e
 
-pub length-above : (low high : ℕ) (v : Vec3) → high < lengthOf v → lengthWithin low high v ≡ 0
-unfolding lengthWithin
-length-above low high v h = rw (lt-leb (lengthOf v) high h) (no (leb low (lengthOf v)))
-  where
-    no : (t : Bool) → cond (t && false) (lengthOf v) 0 ≡ 0
-    no true = refl
-    no false = refl
+  pub length-some : (lengthWithin low high v ≡ 0 → ⊥) → in-range ≡ true
+  unfolding lengthWithin
+  length-some h = some-inside in-range (lengthOf v) h
 
-pub length-between : (low high : ℕ) (v : Vec3) → low ≤ lengthOf v → lengthOf v ≤ high → lengthWithin low high v ≡ lengthOf v
-unfolding lengthWithin
-length-between low high v l h = rw (le-leb low (lengthOf v) l, le-leb (lengthOf v) high h)
+  pub length-is : in-range ≡ true → lengthWithin low high v ≡ lengthOf v
+  unfolding lengthWithin
+  length-is e = rw e
+
+  -- a length that is not 0 has squares that are not
+  pub squares-zero : 0 < low → squaresWithin low high v ≡ 0 → in-range ≡ false
+  unfolding squaresWithin lengthOf
+  squares-zero h e =
+      zero-outside in-range (squares v) (λ t. let l : 1 ≤ lengthOf v = omega (arith, at-least low high (lengthOf v) t) in omega (arith, mul-le-mul l l, root-is (squares v) .below)) e
+
+  pub squares-some : (squaresWithin low high v ≡ 0 → ⊥) → in-range ≡ true
+  unfolding squaresWithin
+  squares-some h = some-inside in-range (squares v) h
+
+  pub squares-is : in-range ≡ true → squaresWithin low high v ≡ squares v
+  unfolding squaresWithin
+  squares-is e = rw e
+
+  -- the range, in squares
+  pub squares-below : squares v < low * low → squaresWithin low high v ≡ 0
+  unfolding squaresWithin lengthOf
+  squares-below h = rw (lt-leb low (root (squares v)) (root-below (squares v) low h))
+
+  pub length-above : high < lengthOf v → squaresWithin low high v ≡ 0
+  unfolding squaresWithin
+  length-above h = rw (lt-leb (lengthOf v) high h) (no (leb low (lengthOf v)))
+    where
+      no : (t : Bool) → cond (t && false) (squares v) 0 ≡ 0
+      no true = refl
+      no false = refl
+
+  pub squares-above : high * (high + 2) < squares v → squaresWithin low high v ≡ 0
+  unfolding lengthOf
+  squares-above h =
+      let l : (high + 1) * (high + 1) ≤ squares v = omega arith in
+      length-above (omega (arith, root-least (squares v) (high + 1) l))
+
+  pub squares-between : low * low ≤ squares v → squares v ≤ high * (high + 2) → squaresWithin low high v ≡ squares v
+  unfolding squaresWithin lengthOf
+  squares-between l h =
+      let k : squares v < (high + 1) * (high + 1) = omega arith in
+      let m : root (squares v) ≤ high = omega (arith, root-below (squares v) (high + 1) k) in
+      rw (le-leb low (root (squares v)) (root-least (squares v) low l), le-leb (root (squares v)) high m)
+
+  -- the root of what is within
+  pub root-within : root (squaresWithin low high v) ≡ lengthWithin low high v
+  unfolding squaresWithin lengthWithin lengthOf
+  root-within = go in-range
+    where
+      go : (t : Bool) → root (cond t (squares v) 0) ≡ cond t (root (squares v)) 0
+      go true = refl
+      go false = sym (root-same 0 0 (record { below = lit≤ tt; above = lit< tt }))

@@ -6,11 +6,11 @@ use native.Mathlib.Omega.{arith}
 use lib.Dec.{lit≤}
 use Rattle.mark.specs.declared.Vec3.{Vec3}
 use Rattle.mark.specs.declared.Shift.{Shift}
-use Rattle.mark.specs.Mark.{nowhere, lengthOf, between, marked, markNumber, lengthWithin}
+use Rattle.mark.specs.Mark.{nowhere, lengthOf, between, marked, markNumber, squaresWithin, lengthWithin}
 use Rattle.mark.specs.Permanent.{units, permanent, permanentAnswer}
 use Rattle.mark.specs.Refusal.{first}
 use Rattle.mark.specs.Ranges.{Within, Direction}
-use Rattle.mark.proofs.LengthLaws.{widen, within-length, at-least, at-most, length-zero, length-some, length-is}
+use Rattle.mark.proofs.LengthLaws.{widen, within-length, at-least, at-most, length-zero, length-some, length-is, squares-zero, squares-some}
 use Rattle.mark.proofs.DirectionLaws.{mark-direction}
 
 pub unmarked : (m : Vec3) → lengthWithin 6300000 6400000 m ≡ 0 → marked m ≡ false
@@ -20,6 +20,15 @@ unmarked m e = length-zero 6300000 6400000 m (omega arith) e
 pub accepted : (m : Vec3) → (lengthWithin 6300000 6400000 m ≡ 0 → ⊥) → marked m ≡ true
 unfolding marked
 accepted m h = length-some 6300000 6400000 m h
+
+-- the same, from the sum of squares
+pub squares-unmarked : (m : Vec3) → squaresWithin 6300000 6400000 m ≡ 0 → marked m ≡ false
+unfolding marked
+squares-unmarked m e = squares-zero 6300000 6400000 m (omega arith) e
+
+pub squares-accepted : (m : Vec3) → (squaresWithin 6300000 6400000 m ≡ 0 → ⊥) → marked m ≡ true
+unfolding marked
+squares-accepted m h = squares-some 6300000 6400000 m h
 
 pub accepted-length : (m : Vec3) → marked m ≡ true → lengthWithin 6300000 6400000 m ≡ lengthOf m
 unfolding marked

@@ -13,7 +13,7 @@ use Rattle.mark.specs.declared.Body.the-variants.{Moon, Sun}
 use Rattle.mark.specs.declared.steps.Seen.{Seen}
 use Rattle.mark.specs.declared.steps.Coordinate.{Coordinate}
 use Rattle.mark.specs.declared.steps.Placed.{Placed}
-use Rattle.mark.specs.Mark.{vec, nowhere, each, lengthOf, between}
+use Rattle.mark.specs.Mark.{vec, nowhere, each, squares, lengthOf, between}
 use Rattle.mark.specs.Refusal.{first}
 
 -- what the paper says of a kind of body: the reference distance R0, K0 in grains, and the range of R
@@ -70,7 +70,7 @@ unfoldable pub sunOf : Body → Body → BodyVector
 sunOf (Moon v) b = vectorOf b
 sunOf (Sun v) b = v
 
--- what is seen of a body: 10 not finite, 11 out of reach, or its whole vector and whole distance
+-- what is seen of a body: 10 not finite, 11 out of reach, or its whole vector and the sum of its squares
 unfoldable pub seenOf : ℕ → ℕ → BodyVector → Seen
 seenOf low high v =
     let w = wholes v in
@@ -78,7 +78,7 @@ seenOf low high v =
     record {
       number = first ((10, not (finite v)) ∷ (11, not (between low high (lengthOf w))) ∷ []);
       at = cond ok w nowhere;
-      r = cond ok (lengthOf w) 0;
+      squares = cond ok (squares w) 0;
     }
 
 -- a number past 2^30 in size stands for every one: no length so large is in reach

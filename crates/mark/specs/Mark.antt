@@ -51,6 +51,10 @@ between low high n = leb low n && leb n high
 unfoldable pub marked : Vec3 → Bool
 marked m = between 6300000 6400000 (lengthOf m)
 
+-- x² + y² + z² where the whole length lies from low to high, else 0
+unfoldable pub squaresWithin : ℕ → ℕ → Vec3 → ℕ
+squaresWithin low high v = cond (between low high (lengthOf v)) (squares v) 0
+
 -- the whole length where it lies from low to high, else 0
 unfoldable pub lengthWithin : ℕ → ℕ → Vec3 → ℕ
 lengthWithin low high v = cond (between low high (lengthOf v)) (lengthOf v) 0

@@ -59,7 +59,7 @@ pub struct Rows {
 pub fn check_mark(m: Vec3) -> u32
     ensures { λ r. ⌜ r ≡ M.markNumber m ⌝ }
 {
-    if steps::whole_length(m, 6300000, 6400000) == 0 {
+    if steps::squares_within(m, 6300000, 6400000) == 0 {
         6
     } else {
         0
@@ -93,7 +93,7 @@ pub fn frame_terms(m: Vec3, frame: u8) -> Terms
             b: zero,
         };
     }
-    if steps::whole_length(m, 6300000, 6400000) == 0 {
+    if steps::squares_within(m, 6300000, 6400000) == 0 {
         return Terms {
             number: 6,
             a: zero,

@@ -19,11 +19,11 @@ use crate::Shift;
 use crate::Vec3;
 use number::Rounded;
 
-// What is seen of a body: 10 not finite, 11 out of reach, else 0, its whole vector and its whole distance.
+// What is seen of a body: 10 not finite, 11 out of reach, else 0, its whole vector and the sum of its squares.
 pub struct Seen {
     pub number: u32,
     pub at: Vec3,
-    pub r: u64,
+    pub squares: u64,
 }
 
 // A double as a whole number; past 2^30 in size it is 2^31.
@@ -38,10 +38,11 @@ pub struct Placed {
     pub at: Vec3,
 }
 
-// The whole length of v where it lies from low to high, else 0. A component past high is not squared.
-pub fn whole_length(v: Vec3, low: u64, high: u64) -> u64
+// x² + y² + z² of v where its root lies from low to high, else 0. No root is taken, and a component past high is not squared.
+pub fn squares_within(v: Vec3, low: u64, high: u64) -> u64
+    requires { ⌜ low < 2 ^ 30 ⌝ }
     requires { ⌜ high < 2 ^ 30 ⌝ }
-    ensures { λ r. ⌜ r ≡ M.lengthWithin low high v ⌝ }
+    ensures { λ r. ⌜ r ≡ M.squaresWithin low high v ⌝ }
 {
     let x = number::magnitude(v.x);
     if high < x {
@@ -55,14 +56,24 @@ pub fn whole_length(v: Vec3, low: u64, high: u64) -> u64
     if high < z {
         return 0;
     }
-    let l = number::root(x * x + y * y + z * z);
-    if l < low {
+    let n = x * x + y * y + z * z;
+    if n < low * low {
         return 0;
     }
-    if high < l {
+    // (high + 1)² and beyond
+    if high * (high + 2) < n {
         return 0;
     }
-    l
+    n
+}
+
+// The whole length of v where it lies from low to high, else 0.
+pub fn whole_length(v: Vec3, low: u64, high: u64) -> u64
+    requires { ⌜ low < 2 ^ 30 ⌝ }
+    requires { ⌜ high < 2 ^ 30 ⌝ }
+    ensures { λ r. ⌜ r ≡ M.lengthWithin low high v ⌝ }
+{
+    number::root(squares_within(v, low, high))
 }
 
 // near(x y/E).
@@ -218,6 +229,7 @@ pub fn wholes_of(v: BodyVector) -> Placed
 pub fn see(v: BodyVector, low: u64, high: u64) -> Seen
     requires { ⌜ high < 2 ^ 30 ⌝ }
     requires { ⌜ 0 < low ⌝ }
+    requires { ⌜ low < 2 ^ 30 ⌝ }
     ensures { λ r. ⌜ r ≡ B.seenOf low high v ⌝ }
 {
     let nowhere = Vec3 { x: 0, y: 0, z: 0 };
@@ -226,19 +238,23 @@ pub fn see(v: BodyVector, low: u64, high: u64) -> Seen
         return Seen {
             number: 10,
             at: nowhere,
-            r: 0,
+            squares: 0,
         };
     }
-    let r = whole_length(p.at, low, high);
-    if r == 0 {
+    let squares = squares_within(p.at, low, high);
+    if squares == 0 {
         return Seen {
             number: 11,
             at: nowhere,
-            r: 0,
+            squares: 0,
         };
     }
     let at = p.at;
-    Seen { number: 0, at, r }
+    Seen {
+        number: 0,
+        at,
+        squares,
+    }
 }
 
 // K, in grains, from R0, K0 and the distance. Neither R0 nor K0 is negative.
@@ -300,6 +316,20 @@ pub fn part(r0: i64, k0: i64, u: Vec3, at: Vec3, r: u64) -> Vec3
     }
 }
 
+// The part of a body that is seen and in reach.
+pub fn seen_part(r0: i64, k0: i64, u: Vec3, s: Seen) -> Vec3
+    requires { ⌜ natAbs r0 < 2 ^ 30 ⌝ }
+    requires { ⌜ natAbs k0 ≤ 523578453 ⌝ }
+    requires { ⌜ r0 ≡ pos (natAbs r0) ⌝ }
+    requires { ⌜ k0 ≡ pos (natAbs k0) ⌝ }
+    requires { ⌜ G.Direction u ⌝ }
+    requires { ⌜ s .squares ≡ M.squares (s .at) ⌝ }
+    requires { ⌜ (natAbs r0 * 10 ≤ 11 * M.lengthOf (s .at)) × (146000000 ≤ M.lengthOf (s .at)) × (M.lengthOf (s .at) < 2 ^ 30) ⌝ }
+    ensures { λ p. ⌜ p ≡ T.partOf (natAbs r0) (natAbs k0) u (s .at) (M.lengthOf (s .at)) ⌝ }
+{
+    part(r0, k0, u, s.at, number::root(s.squares))
+}
+
 // 10, 11 or the tide of a Moon and a Sun at the unit vector u.
 pub fn pair_tide(u: Vec3, v: BodyVector, w: BodyVector) -> Shift
     requires { ⌜ G.Direction u ⌝ }
@@ -315,8 +345,8 @@ pub fn pair_tide(u: Vec3, v: BodyVector, w: BodyVector) -> Shift
             shift: nowhere,
         };
     }
-    let a = part(384400000, 523578453, u, moon.at, moon.r);
-    let b = part(149597870, 240449078, u, sun.at, sun.r);
+    let a = seen_part(384400000, 523578453, u, moon);
+    let b = seen_part(149597870, 240449078, u, sun);
     Shift {
         number: 0,
         shift: Vec3 {

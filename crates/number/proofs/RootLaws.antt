@@ -40,3 +40,11 @@ root-unique n r s h k = le-antisymm (at-most n r s h k) (at-most n s r k h)
 
 pub root-same : (n r : ℕ) → IsRoot n r → r ≡ root n
 root-same n r h = root-unique n r (root n) h (root-is n)
+
+-- ---- a range of the root is a range of the number
+
+pub root-least : (n k : ℕ) → k * k ≤ n → k ≤ root n
+root-least n k h = le-of-suc-le-suc (lt-of-not-le (λ (l : suc (root n) ≤ k). absurd (omega (arith, mul-le-mul l l, root-is n .above))))
+
+pub root-below : (n k : ℕ) → n < k * k → root n < k
+root-below n k h = lt-of-not-le (λ (l : k ≤ root n). absurd (omega (arith, mul-le-mul l l, root-is n .below)))

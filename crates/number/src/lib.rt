@@ -1,5 +1,6 @@
 // The three leaves of the arithmetic: nearest whole number, root, a double as a whole number. Each is defined on every input.
 ghost use mathlib.Core.Path.{_≡_};
+ghost use Prim.Native.Nat.{_+_, _*_, _^_, _≤_, _<_};
 ghost use lib.IntN.{natAbs};
 ghost use lib.Ieee.{ofBits, binary64};
 ghost use Rattle.number.specs.Near as N;
@@ -40,21 +41,15 @@ pub fn near(a: i64, b: u64) -> i64
     n as i64
 }
 
-// The root of n: the greatest number whose square is at most n. It lies from `low` up to, and not including, `high`.
+// The root of n: the greatest number whose square is at most n. From at least the root, Newton's step comes down to it.
 pub fn root(n: u64) -> u64
     ensures { λ r. ⌜ r ≡ R.root n ⌝ }
 {
-    let mut low = 0u64;
-    let mut high = 4294967296u64;
-    while 1 < high - low {
-        let middle = low + (high - low) / 2;
-        if middle * middle <= n {
-            low = middle;
-        } else {
-            high = middle;
-        }
+    let mut x = start(n);
+    while n < x * x {
+        x = (x + n / x) / 2;
     }
-    low
+    x
 }
 
 // The whole number nearest to x, halves away from zero, from its bits.
@@ -65,6 +60,40 @@ pub fn whole(x: f64) -> Rounded
         return Rounded::NotFinite;
     }
     whole_of_bits(f64::to_bits(x))
+}
+
+// At least the root of n, below 2^32. By the chord a + b, a = 2^(e - 1), b = n/2^e, times 91/128, which is more than the root
+// of a half: less than 7 in 100 above the root, so that three steps are enough.
+fn start(n: u64) -> u64
+    ensures { λ r. ⌜ r < 2 ^ 32 ⌝ }
+    ensures { λ r. ⌜ n < (r + 1) * (r + 1) ⌝ }
+{
+    let e = half_width(n);
+    let sum = (1u64 << (e - 1)) + (n >> e) + 1;
+    if 4294967296 < sum {
+        return 4294967295;
+    }
+    91 * sum / 128
+}
+
+// The e for which 4^e is above n and at most 4 n; 1 at 0, 32 from 2^60 on. Any e gives a start that is right, this one a near one.
+fn half_width(n: u64) -> u64
+    ensures { λ r. ⌜ 1 ≤ r ⌝ }
+    ensures { λ r. ⌜ r ≤ 32 ⌝ }
+{
+    let mut m = n;
+    let mut e = 1u64;
+    while e < 31 {
+        if m < 4 {
+            return e;
+        }
+        if m < 16 {
+            return e + 1;
+        }
+        m = m / 16;
+        e += 2;
+    }
+    32
 }
 
 // near(n/b) of two naturals. Nothing overflows: where the remainder is half of b or more, b is at least 2.

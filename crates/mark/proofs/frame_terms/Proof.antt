@@ -19,7 +19,7 @@ use Rattle.mark.specs.Mark.{vec, nowhere, marked}
 use Rattle.mark.specs.Frame.{rowOf, knownFrame, offset, drift, frameA, frameB, frameNumber, termsAnswer}
 use Rattle.mark.specs.Ranges.{Within}
 use Rattle.mark.proofs.LengthLaws.{vec≡}
-use Rattle.mark.proofs.MarkLaws.{unmarked, accepted, accepted-within}
+use Rattle.mark.proofs.MarkLaws.{squares-unmarked, squares-accepted, accepted-within}
 use Rattle.mark.proofs.frame_terms.Statement.{statement}
 use Rattle.mark.proofs.frame_terms.Tie as tie
 
@@ -86,7 +86,7 @@ known code m r a b h e q p s = let l : code < 3 = omega arith in rw (p, s, q, lt
 -- ---- what is known once the row is there
 
 mark-in : (c : tie.After-row-of) → marked (c .before .before .before .before .args .m) ≡ true
-mark-in c = accepted (c .before .before .before .before .args .m) (λ e. c .before .if2 .left (c .before .before .whole-length .ensures ∙ e))
+mark-in c = squares-accepted (c .before .before .before .before .args .m) (λ e. c .before .if2 .left (c .before .before .squares-within .ensures ∙ e))
 
 wide : (c : tie.After-row-of) → Within 6400000 (c .before .before .before .before .args .m)
 wide c = accepted-within (c .before .before .before .before .args .m) (mark-in c)
@@ -97,13 +97,13 @@ row-small c = rw (c .row-of .ensures) (small (c .before .before .before .before 
 returns : tie.Need-returns
 returns c = unknown (c .before .args .frame) (c .before .args .m) (c .if1 .taken)
 
-whole-length-requires : tie.Need-whole-length-requires
-whole-length-requires c κs = search needs
+squares-within-requires : tie.Need-squares-within-requires
+squares-within-requires c κs = search needs
 
 returns-2 : tie.Need-returns-2
 returns-2 c =
     let s = c .before .before .before in
-    no-mark (s .args .frame) (s .args .m) (c .before .before .if1 .left) (unmarked (s .args .m) (sym (c .before .whole-length .ensures) ∙ c .if2 .taken))
+    no-mark (s .args .frame) (s .args .m) (c .before .before .if1 .left) (squares-unmarked (s .args .m) (sym (c .before .squares-within .ensures) ∙ c .if2 .taken))
 
 row-of-requires : tie.Need-row-of-requires
 row-of-requires c κs = search needs
@@ -170,7 +170,7 @@ frame-terms-spec =
     tie.close
     (tie.spec
     returns
-    whole-length-requires
+    squares-within-requires
     returns-2
     row-of-requires
     offset-requires

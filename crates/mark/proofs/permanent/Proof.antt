@@ -14,7 +14,7 @@ use Rattle.mark.proofs.permanent.Statement.{statement}
 use Rattle.mark.proofs.permanent.Tie as tie
 
 whole-length-requires : tie.Need-whole-length-requires
-whole-length-requires c κs = lit< tt
+whole-length-requires c κs = (lit< tt, lit< tt)
 
 refused-requires : tie.Need-refused-requires
 refused-requires c κs = search needs

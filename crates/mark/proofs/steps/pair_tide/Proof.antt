@@ -15,6 +15,7 @@ use Rattle.mark.specs.declared.BodyVector.{BodyVector}
 use Rattle.mark.specs.declared.Shift.{Shift}
 use Rattle.mark.specs.declared.steps.Seen.{Seen}
 use Rattle.mark.specs.Mark.{vec, lengthOf, between}
+use Rattle.mark.specs.Mark as Mark
 use Rattle.mark.specs.Bodies.{moon, sun, wholes, seenOf, bothOf}
 use Rattle.mark.specs.Tide.{part, partOf, plus, tideAt, refusedWith, bodiesNumber, pairAnswer}
 use Rattle.mark.specs.Ranges.{Within}
@@ -32,22 +33,26 @@ rd z = toZ w64 (ofZ w64 z)
 
 record Reached (low high : ℕ) (v : BodyVector) (p : Seen) : Type 0 where
   at : p .at ≡ wholes v
-  r : p .r ≡ lengthOf (wholes v)
+  squares : p .squares ≡ Mark.squares (p .at)
   near : between low high (lengthOf (wholes v)) ≡ true
-  least : low ≤ p .r
-  most : p .r ≤ high
+  least : low ≤ lengthOf (p .at)
+  most : lengthOf (p .at) ≤ high
 
 reached : (low high : ℕ) (v : BodyVector) (p : Seen) → p ≡ seenOf low high v → p .number ≡ 0 → Reached low high v p
 reached low high v p e h =
     let s = sighted low high v (sym (ap (λ (q : Seen). q .number) e) ∙ h) in
-    let r : p .r ≡ lengthOf (wholes v) = ap (λ (q : Seen). q .r) e ∙ s .r in
-    let l : low ≤ lengthOf (wholes v) = at-least low high (lengthOf (wholes v)) (s .near) in
-    let m : lengthOf (wholes v) ≤ high = at-most low high (lengthOf (wholes v)) (s .near) in
-    record { at = ap (λ (q : Seen). q .at) e ∙ s .at; r = r; near = s .near; least = omega arith; most = omega arith }
+    let a : p .at ≡ wholes v = ap (λ (q : Seen). q .at) e ∙ s .at in
+    record {
+      at = a;
+      squares = ap (λ (q : Seen). q .squares) e ∙ s .squares ∙ sym (ap Mark.squares a);
+      near = s .near;
+      least = rw a (at-least low high (lengthOf (wholes v)) (s .near));
+      most = rw a (at-most low high (lengthOf (wholes v)) (s .near));
+    }
 
 -- a part from what is seen is the part from the wholes
-moved : (r0 k0 : ℕ) (u : Vec3) (v : BodyVector) (p : Seen) (a : Vec3) → a ≡ partOf r0 k0 u (p .at) (p .r) → p .at ≡ wholes v → p .r ≡ lengthOf (wholes v) → a ≡ partOf r0 k0 u (wholes v) (lengthOf (wholes v))
-moved r0 k0 u v p a e f g = e ∙ ap₂ (partOf r0 k0 u) f g
+moved : (r0 k0 : ℕ) (u : Vec3) (v : BodyVector) (p : Seen) (a : Vec3) → a ≡ partOf r0 k0 u (p .at) (lengthOf (p .at)) → p .at ≡ wholes v → a ≡ partOf r0 k0 u (wholes v) (lengthOf (wholes v))
+moved r0 k0 u v p a e f = e ∙ ap (λ (w : Vec3). partOf r0 k0 u w (lengthOf w)) f
 
 -- ---- the answers
 
@@ -111,36 +116,32 @@ none c =
     sym (together (a .v) (a .w) (s1 .see .result) (s2 .see2 .result) (c .before .both .result) (s1 .see .ensures) (s2 .see2 .ensures) (c .before .both .ensures))
     ∙ c .if1 .left
 
-part-requires : tie.Need-part-requires
-part-requires c κs =
+seen-part-requires : tie.Need-seen-part-requires
+seen-part-requires c κs =
     let h = moon-there c in
-    let l : 350000000 ≤ c .before .before .before .see .result .r = h .least in
-    let m : c .before .before .before .see .result .r ≤ 410000000 = h .most in
-    (omega arith, (lit< tt, (lit≤ tt, (refl, (refl, (c .before .before .before .before .pre, (h .r ∙ sym (ap lengthOf (h .at)), omega arith, omega arith)))))))
+    (lit< tt, (lit≤ tt, (refl, (refl, (c .before .before .before .before .pre, (h .squares, (omega (arith, h .least), omega (arith, h .least), omega (arith, h .most))))))))
 
-part-requires-2 : tie.Need-part-requires-2
-part-requires-2 c κs =
+seen-part-requires-2 : tie.Need-seen-part-requires-2
+seen-part-requires-2 c κs =
     let h = sun-there (c .before) in
-    let l : 146000000 ≤ c .before .before .before .see2 .result .r = h .least in
-    let m : c .before .before .before .see2 .result .r ≤ 153000000 = h .most in
-    (omega arith, (lit< tt, (lit≤ tt, (refl, (refl, (c .before .before .before .before .before .pre, (h .r ∙ sym (ap lengthOf (h .at)), omega arith, omega arith)))))))
+    (lit< tt, (lit≤ tt, (refl, (refl, (c .before .before .before .before .before .pre, (h .squares, (omega (arith, h .least), omega (arith, h .least), omega (arith, h .most))))))))
 
-moon-part : (c : tie.After-part) → c .part .result ≡ part moon (c .before .before .before .before .before .args .u) (c .before .before .before .before .before .args .v)
+moon-part : (c : tie.After-seen-part) → c .seen-part .result ≡ part moon (c .before .before .before .before .before .args .u) (c .before .before .before .before .before .args .v)
 moon-part c =
     let h = moon-there (c .before) in
-    moved 384400000 523578453 (c .before .before .before .before .before .args .u) (c .before .before .before .before .before .args .v) (c .before .before .before .before .see .result) (c .part .result) (c .part .ensures) (h .at) (h .r)
+    moved 384400000 523578453 (c .before .before .before .before .before .args .u) (c .before .before .before .before .before .args .v) (c .before .before .before .before .see .result) (c .seen-part .result) (c .seen-part .ensures) (h .at)
 
-moon-within : (c : tie.After-part) → Within 780000000 (c .part .result)
+moon-within : (c : tie.After-seen-part) → Within 780000000 (c .seen-part .result)
 moon-within c =
     let s = c .before .before .before .before .before in
     subst⁻¹ (Within 780000000) (moon-part c) (moon-part-small (s .args .u) (wholes (s .args .v)) (lengthOf (wholes (s .args .v))) (s .pre) refl (at-least 350000000 410000000 (lengthOf (wholes (s .args .v))) (moon-there (c .before) .near)))
 
-sun-part : (c : tie.After-part2) → c .part2 .result ≡ part sun (c .before .before .before .before .before .before .args .u) (c .before .before .before .before .before .before .args .w)
+sun-part : (c : tie.After-seen-part2) → c .seen-part2 .result ≡ part sun (c .before .before .before .before .before .before .args .u) (c .before .before .before .before .before .before .args .w)
 sun-part c =
     let h = sun-there (c .before .before) in
-    moved 149597870 240449078 (c .before .before .before .before .before .before .args .u) (c .before .before .before .before .before .before .args .w) (c .before .before .before .before .see2 .result) (c .part2 .result) (c .part2 .ensures) (h .at) (h .r)
+    moved 149597870 240449078 (c .before .before .before .before .before .before .args .u) (c .before .before .before .before .before .before .args .w) (c .before .before .before .before .see2 .result) (c .seen-part2 .result) (c .seen-part2 .ensures) (h .at)
 
-sun-within : (c : tie.After-part2) → Within 300000000 (c .part2 .result)
+sun-within : (c : tie.After-seen-part2) → Within 300000000 (c .seen-part2 .result)
 sun-within c =
     let s = c .before .before .before .before .before .before in
     subst⁻¹ (Within 300000000) (sun-part c) (sun-part-small (s .args .u) (wholes (s .args .w)) (lengthOf (wholes (s .args .w))) (s .pre) refl (at-least 146000000 153000000 (lengthOf (wholes (s .args .w))) (sun-there (c .before .before) .near)))
@@ -148,24 +149,24 @@ sun-within c =
 add-t11 : tie.Need-add-t11
 add-t11 c =
     let p = c .before .before .before .before in
-    fit (sum (p .before .part .result .x) (p .part2 .result .x) (moon-within (p .before) .x) (sun-within p .x)) (lit< tt)
+    fit (sum (p .before .seen-part .result .x) (p .seen-part2 .result .x) (moon-within (p .before) .x) (sun-within p .x)) (lit< tt)
 
 add-t12 : tie.Need-add-t12
 add-t12 c =
     let p = c .before .before .before .before .before .before .before .before in
-    fit (sum (p .before .part .result .y) (p .part2 .result .y) (moon-within (p .before) .y) (sun-within p .y)) (lit< tt)
+    fit (sum (p .before .seen-part .result .y) (p .seen-part2 .result .y) (moon-within (p .before) .y) (sun-within p .y)) (lit< tt)
 
 add-t13 : tie.Need-add-t13
 add-t13 c =
     let p = c .before .before .before .before .before .before .before .before .before .before .before .before in
-    fit (sum (p .before .part .result .z) (p .part2 .result .z) (moon-within (p .before) .z) (sun-within p .z)) (lit< tt)
+    fit (sum (p .before .seen-part .result .z) (p .seen-part2 .result .z) (moon-within (p .before) .z) (sun-within p .z)) (lit< tt)
 
 returns-2 : tie.Need-returns-2
 returns-2 c =
     let p = c .before .before .before .before .before .before .before .before .before .before .before .before in
     let a = p .before .before .before .before .before .before .args in
-    let m = p .before .part .result in
-    let s = p .part2 .result in
+    let m = p .before .seen-part .result in
+    let s = p .seen-part2 .result in
     summed (a .u) (a .v) (a .w)
     (vec (rd (rd (m .x) +ℤ rd (s .x))) (rd (rd (m .y) +ℤ rd (s .y))) (rd (rd (m .z) +ℤ rd (s .z))))
     (none (p .before .before))
@@ -179,8 +180,8 @@ pair-tide-spec =
     see-requires-2
     both-requires
     returns
-    part-requires
-    part-requires-2
+    seen-part-requires
+    seen-part-requires-2
     add-t11
     add-t12
     add-t13

@@ -9,15 +9,15 @@ use Rattle.mark.specs.declared.BodyVector.{BodyVector}
 use Rattle.mark.specs.declared.steps.Seen.{Seen}
 use Rattle.mark.specs.declared.steps.Placed.{Placed}
 use Rattle.mark.specs.Refusal.{first}
-use Rattle.mark.specs.Mark.{nowhere, each, lengthOf, lengthWithin}
+use Rattle.mark.specs.Mark.{nowhere, each, squares, squaresWithin}
 use Rattle.mark.specs.Bodies.{wholes, finite, clipped, placedOf, seenOf}
-use Rattle.mark.proofs.LengthLaws.{length-is}
+use Rattle.mark.proofs.LengthLaws.{squares-is}
 use Rattle.mark.proofs.BodyLaws.{clipped-out, clipped-in}
 use Rattle.mark.proofs.steps.see.Statement.{statement}
 use Rattle.mark.proofs.steps.see.Tie as tie
 
 abbrev seen : ℕ → Vec3 → ℕ → Seen
-seen n w r = record { number = n; at = w; r = r }
+seen n w q = record { number = n; at = w; squares = q }
 
 module _ (low high : ℕ) (v : BodyVector) (p : Placed) (e : p ≡ placedOf v) where
   is-finite : p .finite ≡ finite v
@@ -32,25 +32,25 @@ module _ (low high : ℕ) (v : BodyVector) (p : Placed) (e : p ≡ placedOf v) w
   unfolding seenOf first
   not-finite h = rw (sym is-finite ∙ not-true (p .finite) h)
 
-  out-of-reach : high < 2 ^ 30 → 0 < low → not (p .finite) ≡ false → lengthWithin low high (p .at) ≡ 0 → seen 11 nowhere 0 ≡ seenOf low high v
+  out-of-reach : high < 2 ^ 30 → 0 < low → not (p .finite) ≡ false → squaresWithin low high (p .at) ≡ 0 → seen 11 nowhere 0 ≡ seenOf low high v
   unfolding seenOf first
   out-of-reach h l f r =
-      rw (sym is-finite ∙ not-false (p .finite) f, clipped-out low high (wholes v) h l (sym (ap (lengthWithin low high) is-at) ∙ r))
+      rw (sym is-finite ∙ not-false (p .finite) f, clipped-out low high (wholes v) h l (sym (ap (squaresWithin low high) is-at) ∙ r))
 
-  in-reach : high < 2 ^ 30 → not (p .finite) ≡ false → (r : ℕ) → r ≡ lengthWithin low high (p .at) → (r ≡ 0 → ⊥) → seen 0 (p .at) r ≡ seenOf low high v
+  in-reach : high < 2 ^ 30 → not (p .finite) ≡ false → (r : ℕ) → r ≡ squaresWithin low high (p .at) → (r ≡ 0 → ⊥) → seen 0 (p .at) r ≡ seenOf low high v
   unfolding seenOf first
   in-reach h f r q n =
-      let s : r ≡ lengthWithin low high (each clipped (wholes v)) = q ∙ ap (lengthWithin low high) is-at in
+      let s : r ≡ squaresWithin low high (each clipped (wholes v)) = q ∙ ap (squaresWithin low high) is-at in
       let k = clipped-in low high (wholes v) h (λ z. n (s ∙ z)) in
-      let t : r ≡ lengthOf (wholes v) = s ∙ ap (lengthWithin low high) (k .1) ∙ length-is low high (wholes v) (k .0) in
+      let t : r ≡ squares (wholes v) = s ∙ ap (squaresWithin low high) (k .1) ∙ squares-is low high (wholes v) (k .0) in
       let w : p .at ≡ wholes v = is-at ∙ k .1 in
       rw (sym is-finite ∙ not-false (p .finite) f, k .0, t, w)
 
 wholes-of-requires : tie.Need-wholes-of-requires
 wholes-of-requires c κs = search needs
 
-whole-length-requires : tie.Need-whole-length-requires
-whole-length-requires c κs = search needs
+squares-within-requires : tie.Need-squares-within-requires
+squares-within-requires c κs = search needs
 
 returns : tie.Need-returns
 returns c =
@@ -63,9 +63,9 @@ returns-2 c =
     let w = c .before .before .before .before in
     let a = w .before .args in
     out-of-reach (a .low) (a .high) (a .v) (w .wholes-of .result) (w .wholes-of .ensures)
-    (w .before .pre .0) (w .before .pre .1)
+    (w .before .pre .0) (w .before .pre .1 .0)
     (c .before .before .if1 .left)
-    (sym (c .before .whole-length .ensures) ∙ c .if2 .taken)
+    (sym (c .before .squares-within .ensures) ∙ c .if2 .taken)
 
 returns-3 : tie.Need-returns-3
 returns-3 c =
@@ -74,10 +74,10 @@ returns-3 c =
     in-reach (a .low) (a .high) (a .v) (w .wholes-of .result) (w .wholes-of .ensures)
     (w .before .pre .0)
     (c .before .before .before .if1 .left)
-    (c .before .before .whole-length .result)
-    (c .before .before .whole-length .ensures)
+    (c .before .before .squares-within .result)
+    (c .before .before .squares-within .ensures)
     (c .before .if2 .left)
 
 pub see-spec : {M : Type 1} → statement M
 see-spec =
-    tie.close (tie.spec wholes-of-requires returns whole-length-requires returns-2 returns-3)
+    tie.close (tie.spec wholes-of-requires returns squares-within-requires returns-2 returns-3)

@@ -1,131 +1,21 @@
--- `mark::steps::whole_length` meets its contract: no component is longer than the vector, so one past high settles it. Assumes nothing.
-use mathlib.Core.Path.{_≡_, sym, ap, _∙_, subst}
-use Prim.Native.Nat.{ℕ, _+_, _-_, _*_, _^_, _≤_, _<_}
-use native.Mathlib.Nat.{mul-le-mul}
-use native.Mathlib.Omega.{arith}
+-- `mark::steps::whole_length` meets its contract: the root of the squares within. Assumes nothing.
+use mathlib.Core.Path.{ap, _∙_}
 use borrow.Author.Needs.{needs}
-use lib.IntN.{ℤ, natAbs}
-use mir.Syntax.{w64}
-use mir.Val.{SFits, toZ, ofZ}
-use mir.Facts.{toZ-ofZ}
 use Rattle.number.specs.Root.{root}
-use Rattle.mark.specs.declared.Vec3.{Vec3}
-use Rattle.mark.specs.Mark.{squares, lengthOf, lengthWithin}
-use Rattle.mark.proofs.LengthLaws.{within-length, length-below, length-above, length-between}
+use Rattle.mark.proofs.LengthLaws.{root-within}
 use Rattle.mark.proofs.steps.whole_length.Statement.{statement}
 use Rattle.mark.proofs.steps.whole_length.Tie as tie
 
--- a magnitude, as it came back
-size : (r : ℕ) (z : ℤ) → SFits w64 z → r ≡ natAbs (toZ w64 (ofZ w64 z)) → r ≡ natAbs z
-size r z f e = e ∙ ap natAbs (toZ-ofZ f)
-
-magnitude-requires : tie.Need-magnitude-requires
-magnitude-requires c κs = search needs
-
-x-is : (c : tie.After-magnitude) → c .magnitude .result ≡ natAbs (c .before .before .args .v .x)
-x-is c = size (c .magnitude .result) (c .before .before .args .v .x) (record { sfits = c .before .struct-told .given .0 .1 }) (c .magnitude .ensures)
-
-returns : tie.Need-returns
-returns c =
-    let v = c .before .before .before .args .v in
-    sym (length-above (c .before .before .before .args .low) (c .before .before .before .args .high) v (omega (arith, x-is (c .before), within-length v .x, c .if1 .taken)))
-
-magnitude-requires-2 : tie.Need-magnitude-requires-2
-magnitude-requires-2 c κs = search needs
-
-y-is : (c : tie.After-magnitude2) → c .magnitude2 .result ≡ natAbs (c .before .before .before .before .before .args .v .y)
-y-is c = size (c .magnitude2 .result) (c .before .before .before .before .before .args .v .y) (record { sfits = c .before .struct-told2 .given .1 .0 .1 }) (c .magnitude2 .ensures)
-
-returns-2 : tie.Need-returns-2
-returns-2 c =
-    let a = c .before .before .before .before .before .before .args in
-    sym (length-above (a .low) (a .high) (a .v) (omega (arith, y-is (c .before), within-length (a .v) .y, c .if2 .taken)))
-
-magnitude-requires-3 : tie.Need-magnitude-requires-3
-magnitude-requires-3 c κs = search needs
-
-z-is : (c : tie.After-magnitude3) → c .magnitude3 .result ≡ natAbs (c .before .before .before .before .before .before .before .before .args .v .z)
-z-is c = size (c .magnitude3 .result) (c .before .before .before .before .before .before .before .before .args .v .z) (record { sfits = c .before .struct-told3 .given .1 .1 .0 .1 }) (c .magnitude3 .ensures)
-
-returns-3 : tie.Need-returns-3
-returns-3 c =
-    let a = c .before .before .before .before .before .before .before .before .before .args in
-    sym (length-above (a .low) (a .high) (a .v) (omega (arith, z-is (c .before), within-length (a .v) .z, c .if3 .taken)))
-
--- a component that is not squared past 2^30
-square : (a high : ℕ) → a ≤ high → high < 2 ^ 30 → a * a < 2 ^ 60
-square a high l h =
-    let k : a ≤ 2 ^ 30 - 1 = omega arith in
-    omega (arith, mul-le-mul k k)
-
-x-square : (c : tie.Else3) → c .before .before .before .before .before .before .before .magnitude .result * c .before .before .before .before .before .before .before .magnitude .result < 2 ^ 60
-x-square c = square (c .before .before .before .before .before .before .before .magnitude .result) (c .before .before .before .before .before .before .before .before .before .args .high) (c .before .before .before .before .before .before .if1 .left) (c .before .before .before .before .before .before .before .before .before .pre)
-
-y-square : (c : tie.Else3) → c .before .before .before .before .magnitude2 .result * c .before .before .before .before .magnitude2 .result < 2 ^ 60
-y-square c = square (c .before .before .before .before .magnitude2 .result) (c .before .before .before .before .before .before .before .before .before .args .high) (c .before .before .before .if2 .left) (c .before .before .before .before .before .before .before .before .before .pre)
-
-z-square : (c : tie.Else3) → c .before .magnitude3 .result * c .before .magnitude3 .result < 2 ^ 60
-z-square c = square (c .before .magnitude3 .result) (c .before .before .before .before .before .before .before .before .before .args .high) (c .if3 .left) (c .before .before .before .before .before .before .before .before .before .pre)
-
-mul-root : tie.Need-mul-root
-mul-root c = omega (arith, x-square c)
-
-mul-root-2 : tie.Need-mul-root-2
-mul-root-2 c = omega (arith, y-square c)
-
-add-root : tie.Need-add-root
-add-root c = omega (arith, x-square c, y-square c)
-
-mul-root-3 : tie.Need-mul-root-3
-mul-root-3 c = omega (arith, z-square c)
-
-add-root-2 : tie.Need-add-root-2
-add-root-2 c = omega (arith, x-square c, y-square c, z-square c)
+squares-within-requires : tie.Need-squares-within-requires
+squares-within-requires c κs = search needs
 
 root-requires : tie.Need-root-requires
 root-requires c κs = search needs
 
-summed : (v : Vec3) (a b c : ℕ) → a ≡ natAbs (v .x) → b ≡ natAbs (v .y) → c ≡ natAbs (v .z) → root (a * a + b * b + c * c) ≡ lengthOf v
-unfolding lengthOf squares
-summed v a b c e f g = rw (e, f, g)
-
-root-is : (c : tie.After-root) → c .root .result ≡ lengthOf (c .before .before .before .before .before .before .before .before .before .before .args .v)
-root-is c =
-    c .root .ensures
-    ∙ summed (c .before .before .before .before .before .before .before .before .before .before .args .v) (c .before .before .before .before .before .before .before .before .magnitude .result) (c .before .before .before .before .before .magnitude2 .result) (c .before .before .magnitude3 .result) (x-is (c .before .before .before .before .before .before .before .before)) (y-is (c .before .before .before .before .before)) (z-is (c .before .before))
-
-returns-4 : tie.Need-returns-4
-returns-4 c =
-    let a = c .before .before .before .before .before .before .before .before .before .before .before .args in
-    sym (length-below (a .low) (a .high) (a .v) (subst (λ (l : ℕ). l < a .low) (root-is (c .before)) (c .if4 .taken)))
-
-returns-5 : tie.Need-returns-5
-returns-5 c =
-    let a = c .before .before .before .before .before .before .before .before .before .before .before .before .args in
-    sym (length-above (a .low) (a .high) (a .v) (subst (λ (l : ℕ). a .high < l) (root-is (c .before .before)) (c .if5 .taken)))
-
-returns-6 : tie.Need-returns-6
-returns-6 c =
-    let a = c .before .before .before .before .before .before .before .before .before .before .before .before .args in
-    let e = root-is (c .before .before) in
-    e ∙ sym (length-between (a .low) (a .high) (a .v) (subst (λ (l : ℕ). a .low ≤ l) e (c .before .if4 .left)) (subst (λ (l : ℕ). l ≤ a .high) e (c .if5 .left)))
+returns : tie.Need-returns
+returns c =
+    let a = c .before .before .args in
+    c .root .ensures ∙ ap root (c .before .squares-within .ensures) ∙ root-within (a .low) (a .high) (a .v)
 
 pub whole-length-spec : {M : Type 1} → statement M
-whole-length-spec =
-    tie.close
-    (tie.spec
-    magnitude-requires
-    returns
-    magnitude-requires-2
-    returns-2
-    magnitude-requires-3
-    returns-3
-    mul-root
-    mul-root-2
-    add-root
-    mul-root-3
-    add-root-2
-    root-requires
-    returns-4
-    returns-5
-    returns-6)
+whole-length-spec = tie.close (tie.spec squares-within-requires root-requires returns)

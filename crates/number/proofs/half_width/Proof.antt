@@ -1,0 +1,50 @@
+-- `number::half_width` meets its contract: from 1 to 32. Assumes nothing.
+use Prim.Native.Nat.{ℕ, _-_, _≤_}
+use native.Mathlib.Omega.{arith}
+use Rattle.number.proofs.half_width.Statement.{statement}
+use Rattle.number.proofs.half_width.Tie as tie
+
+abbrev Inv-loop : tie.InvT-loop
+Inv-loop n m₀ e₀ m e = (1 ≤ e) × (e ≤ 32)
+
+abbrev μ-loop : tie.MeasureT-loop
+μ-loop n m₀ e₀ m e = 32 - e
+
+loop-holds : tie.Need-loop-holds Inv-loop μ-loop
+loop-holds c = (omega arith, omega arith)
+
+returns : tie.Need-returns Inv-loop μ-loop
+returns c = (omega arith, omega arith)
+
+add-result : tie.Need-add-result Inv-loop μ-loop
+add-result c = omega arith
+
+returns-2 : tie.Need-returns-2 Inv-loop μ-loop
+returns-2 c = (omega arith, omega arith)
+
+add-e : tie.Need-add-e Inv-loop μ-loop
+add-e c = omega arith
+
+loop-less : tie.Need-loop-less Inv-loop μ-loop
+loop-less c = omega arith
+
+loop-again : tie.Need-loop-again Inv-loop μ-loop
+loop-again c = (omega arith, omega arith)
+
+returns-3 : tie.Need-returns-3 Inv-loop μ-loop
+returns-3 c = (omega arith, omega arith)
+
+pub half-width-spec : {M : Type 1} → statement M
+half-width-spec =
+    tie.close
+    (tie.spec
+    Inv-loop
+    μ-loop
+    loop-holds
+    returns
+    add-result
+    returns-2
+    add-e
+    loop-less
+    loop-again
+    returns-3)
