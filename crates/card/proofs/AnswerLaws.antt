@@ -40,7 +40,7 @@ settled n a b h = rw (ne-eqb n 0 h)
 
 -- ---- reading a card
 
-number-short : (s : List ℕ) → (length s ≡ 88 → ⊥) → 1 ≡ readNumber s
+pub number-short : (s : List ℕ) → (length s ≡ 88 → ⊥) → 1 ≡ readNumber s
 unfolding readNumber
 number-short s h = wrong (length s) 88 (checks (eqb (getD s 11 0) 0) (decode s)) h
 

@@ -7,6 +7,7 @@ use native.Mathlib.Omega.{arith}
 use borrow.Author.Tests.{eqb-true, not-false}
 use lib.Dec.{eqb, lit<}
 use lib.IntN.{ℤ, _+ℤ_}
+use Rattle.algebra.proofs.BoolLaws.{both}
 use Rattle.mark.specs.declared.Body.{Body}
 use Rattle.mark.specs.declared.Vec3.{Vec3}
 use Rattle.mark.specs.Mark.{nowhere}
@@ -20,7 +21,7 @@ use Rattle.mark.proofs.RefusalLaws.{positive, NoneHolds, accepted, stays, onwar
 use Rattle.card.specs.declared.Card.{Card}
 use Rattle.card.specs.Checks.{sized, isZero, minus, scaled, tideFits, epochFits, velocityFits, positionFits, vectorFits, checks, cardNumber}
 use Rattle.card.specs.Calls.{Call, move, frame, meanOn, meanOff, solidOn, solidOff, moved, reframed, next, own, callNumber}
-use Rattle.card.proofs.CheckLaws.{both, Passed, passed, passed-number, is-sized, tide-within, positive-checks}
+use Rattle.card.proofs.CheckLaws.{Passed, passed, passed-number, is-sized, tide-within, positive-checks}
 
 -- ---- a table in two parts, of which no condition holds
 
@@ -48,12 +49,14 @@ pub card-accepted : (c : Card) (k : Call) → callNumber c k ≡ 0 → cardNumbe
 unfolding callNumber cardNumber
 card-accepted c k e = first-part (checks true c) (own c (next c k) k) e
 
--- and none of the call's own conditions holds
-pub own-accepted : (c : Card) (k : Call) → callNumber c k ≡ 0 → NoneHolds (own c (next c k) k)
+-- of an accepted card the number is the call's own
+pub own-number : (c : Card) (k : Call) → cardNumber c ≡ 0 → callNumber c k ≡ first (own c (next c k) k)
 unfolding callNumber cardNumber
-own-accepted c k e =
-    accepted (own c (next c k) k) (positive-own c (next c k) k) .0
-    (sym (onward (checks true c) (own c (next c k) k) (positive-checks true c) (card-accepted c k e)) ∙ e)
+own-number c k e = onward (checks true c) (own c (next c k) k) (positive-checks true c) e
+
+-- so none of the conditions of an accepted call holds
+pub own-accepted : (c : Card) (k : Call) → callNumber c k ≡ 0 → NoneHolds (own c (next c k) k)
+own-accepted c k e = accepted (own c (next c k) k) (positive-own c (next c k) k) .0 (sym (own-number c k (card-accepted c k e)) ∙ e)
 
 -- ---- byte 10 and the stored vector
 
@@ -69,7 +72,8 @@ zero-fits zero v h e = e
 zero-fits (suc zero) v h e = e
 zero-fits (suc (suc n)) v h e = absurd (omega arith)
 
-byte-is : (n m : ℕ) → not (eqb n m) ≡ false → n ≡ m
+-- a call's condition on it, passed
+pub byte-is : (n m : ℕ) → not (eqb n m) ≡ false → n ≡ m
 byte-is n m e = eqb-true n m (not-false (eqb n m) e)
 
 vector-fits : (v : Vec3) → Within 1461000000 v → vectorFits v ≡ true

@@ -1,31 +1,16 @@
 -- Cases 7, 8 and 11 of the paper, computed on the definitions.
 use mathlib.Core.Path.{_≡_, refl}
-use mathlib.Core.List.{[], _∷_}
-use lib.IntN.{ℤ, pos, negℤ, _+ℤ_}
+use lib.IntN.{pos, negℤ, _+ℤ_}
 use Rattle.number.specs.Near.{near, nearest}
 use Rattle.number.specs.Root.{root, rootIn, refine}
-use Rattle.mark.specs.Mark.{vec, nowhere, squares, lengthOf, marked}
+use Rattle.mark.specs.Mark.{vec, squares, lengthOf, marked}
 use Rattle.mark.specs.Frame.{knownFrame}
 use Rattle.mark.specs.Tide.{plus}
 use Rattle.mark.specs.Refusal.{first}
-use Rattle.card.specs.declared.Card.{Card}
 use Rattle.card.specs.Checks.{sized, minus, scaled, digit, shapeAt, shapeFrom, siteShape, isZero, tideFits, epochFits, velocityFits, fromMark, positionFits, vectorFits, checks}
 use Rattle.card.specs.Field.{roundedBy}
-use Rattle.card.specs.Calls.{Call, move, moved, next, own, callNumber, settle, step}
-
--- 90001M001 in ITRF2008 at the mark of case 2, moving 20,000 micrometres a year in x, at an epoch
-abbrev pub at : ℤ → Card
-at e =
-    record {
-      site = 57 ∷ 48 ∷ 48 ∷ 48 ∷ 49 ∷ 77 ∷ 48 ∷ 48 ∷ 49 ∷ [];
-      frame = 0;
-      tide = 0;
-      epoch = e;
-      mark = vec (pos 6378137) (pos 0) (pos 0);
-      velocity = vec (pos 20000) (pos 0) (pos 0);
-      position = vec (pos 9318458157000000) (pos 0) (pos 0);
-      solid = nowhere;
-    }
+use Rattle.card.specs.Calls.{move, moved, next, own, callNumber, settle, step}
+use Rattle.card.specs.Sample.{at}
 
 -- 7. velocity 20,000 moved 1,461: 29,220,000 grains
 pub case-7 : moved (pos 1461) (at (pos 0)) .position ≡ vec (pos 9318458157000000 +ℤ pos 29220000) (pos 0) (pos 0)

@@ -1,12 +1,13 @@
 -- What a card that passed its checks is: each check by itself, and how large each number can be; and the sizes of what the calls add.
 use mathlib.Core.Path.{_≡_, refl, subst⁻¹}
-use mathlib.Core.Bool.{Bool, true, false, _&&_, false≢true}
+use mathlib.Core.Bool.{Bool, true, _&&_}
 use Prim.Native.Nat.{ℕ, zero, suc, _+_, _*_, _^_, _≤_}
 use native.Mathlib.Nat.{le-trans}
 use native.Mathlib.Omega.{arith}
 use borrow.Author.Tests.{leb-true, le-leb, eqb-true, eq-eqb, not-false}
 use lib.Dec.{T, leb, eqb, lit<, lit≤}
 use lib.IntN.{ℤ, pos, negsuc, natAbs, _+ℤ_, _-ℤ_, _*ℤ_}
+use Rattle.algebra.proofs.BoolLaws.{holds, passes, both}
 use Rattle.algebra.proofs.Difference.{split, ℤ⊖}
 use Rattle.algebra.proofs.IntLaws.{abs-*}
 use Rattle.algebra.proofs.Machine.{plain, lit, v+, v-, v*}
@@ -30,19 +31,6 @@ use Rattle.mark.proofs.DirectionLaws.{direction-within}
 use Rattle.mark.proofs.TideLaws.{tide-small, plus-small}
 use Rattle.card.specs.declared.Card.{Card}
 use Rattle.card.specs.Checks.{sized, minus, scaled, siteShape, tideFits, epochFits, velocityFits, fromMark, positionFits, vectorFits, checks, cardNumber, Valid}
-
--- ---- tests
-
-pub holds : (b : Bool) → T b → b ≡ true
-holds true t = refl
-holds false t = absurd t
-
-pub passes : {b : Bool} → b ≡ true → T b
-passes e = subst⁻¹ T e tt
-
-pub both : (a b : Bool) → a && b ≡ true → (a ≡ true) × (b ≡ true)
-both true b e = (refl, e)
-both false b e = absurd (false≢true e)
 
 -- ---- three numbers of a size
 
@@ -307,7 +295,7 @@ frame-b-within g m w =
 
 -- ---- the tide
 
-mark-long : (m : Vec3) → marked m ≡ true → 6300000 ≤ lengthOf m
+pub mark-long : (m : Vec3) → marked m ≡ true → 6300000 ≤ lengthOf m
 unfolding marked
 mark-long m e = at-least 6300000 6400000 (lengthOf m) e
 

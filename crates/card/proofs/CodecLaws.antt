@@ -4,11 +4,12 @@ use mathlib.Core.Bool.{Bool, true, _&&_}
 use mathlib.Core.List.{List, [], _∷_, _++_, append-nil}
 use Prim.Native.Nat.{ℕ, _+_, _<_}
 use native.Mathlib.Omega.{arith}
-use borrow.Author.Tests.{eq-eqb, eqb-true}
+use borrow.Author.Tests.{eq-eqb, eqb-true, not-false}
 use lib.Dec.{eqb, lit<, lit≤}
 use lib.ListN.{length, getD, drop, length-append, take-append-drop}
 use lib.Seq.{take-all}
 use lib.IntN.{ℤ, pos}
+use Rattle.algebra.proofs.BoolLaws.{and-left}
 use Rattle.octets.specs.Octets.{bytesOf, splice}
 use Rattle.octets.proofs.OctetLaws.{Bytes, splice-all}
 use Rattle.mark.specs.Mark.{vec}
@@ -22,7 +23,7 @@ use Rattle.card.specs.Codec.{cardFields, encode, decode, readNumber, rea
 use Rattle.card.proofs.LayoutLaws.{widths, length-run, length-head, splice-run, splice-three, splice-head}
 use Rattle.card.proofs.RunLaws.{fieldsAt, Ranged, HeadOf, signed-size, ranged-three, bytes-append, bytes-run, bytes-head, read-run, write-run, read-head, write-head}
 use Rattle.card.proofs.CheckLaws.{Passed, passed, epoch-small, velocity-small, vector-small}
-use Rattle.card.proofs.ValidLaws.{past-length, of-length, unmet, and-left, site-nine, position-size}
+use Rattle.card.proofs.ValidLaws.{past-length, of-length, site-nine, position-size}
 
 -- ---- the card's fields
 
@@ -157,7 +158,7 @@ read-accepted s e =
     let z : Bool = eqb (getD s 11 0) 0 in
     let r : (length s ≡ 88) × (first (checks z d) ≡ 0) = of-length (length s) 88 (checks z d) e in
     let none = accepted (checks z d) refl .0 (r .1) in
-    let q : z ≡ true = and-left z (tideFits (d .tide) (d .solid)) (unmet (z && tideFits (d .tide) (d .solid)) (none 2 (lit< tt))) in
+    let q : z ≡ true = and-left z (tideFits (d .tide) (d .solid)) (not-false (z && tideFits (d .tide) (d .solid)) (none 2 (lit< tt))) in
     record { long = r .0; zeros = eqb-true (getD s 11 0) 0 q; card = ap (λ (b : Bool). first (checks b d)) (sym q) ∙ r .1 }
 
 -- an accepted read, written again, gives the same bytes

@@ -6,10 +6,11 @@ use mathlib.Core.List.{List, [], _∷_, _++_}
 use Prim.Native.Nat.{ℕ, _*_, _≤_, _<_}
 use native.Mathlib.Nat.{le-refl, mul-le-mul}
 use native.Mathlib.Omega.{arith}
-use borrow.Author.Tests.{eq-eqb, ne-eqb, leb-true, le-leb}
+use borrow.Author.Tests.{eq-eqb, ne-eqb, leb-true, le-leb, not-false}
 use lib.Dec.{eqb, leb, lit<, lit≤}
 use lib.ListN.{length, List·getD-append}
 use lib.IntN.{ℤ, pos, natAbs, _+ℤ_, _-ℤ_, _*ℤ_, *ℤ-comm}
+use Rattle.algebra.proofs.BoolLaws.{and-left, and-right}
 use Rattle.algebra.proofs.Difference.{split, ℤ⊖}
 use Rattle.algebra.proofs.IntLaws.{abs-*}
 use Rattle.octets.proofs.OctetLaws.{Bytes}
@@ -29,10 +30,9 @@ use Rattle.card.specs.declared.steps.Opened.{Opened}
 use Rattle.card.specs.Checks.{metre, sized, minus, scaled, siteShape, isZero, tideFits, epochFits, velocityFits, fromMark, positionFits, vectorFits, checks, cardNumber}
 use Rattle.card.specs.Layout.{Fields, three}
 use Rattle.card.specs.Field.{roundedBy, offsetOf, speedOf, fieldOf, openedOf, zeroBytes, openedChecks, fieldNumber, expandedOf, expandCard, exportNumber, exported}
-use Rattle.card.proofs.LayoutLaws.{widths}
 use Rattle.card.proofs.RunLaws.{Ranged, signed-size, ranged-three}
 use Rattle.card.proofs.CheckLaws.{Passed, passed, passed-number, sized-is, is-sized, epoch-small, velocity-small, offset-small}
-use Rattle.card.proofs.ValidLaws.{past-length, of-length, tide-low, unmet, and-left, and-right, site-nine}
+use Rattle.card.proofs.ValidLaws.{past-length, of-length, tide-low, site-nine}
 use Rattle.card.proofs.PackLaws.{openedFields, packed, taken, field-packed, length-packed, opened-packed, zeros-packed, packed-opened}
 
 -- ---- the checks
@@ -58,19 +58,19 @@ field-accepted s e =
     let f : Opened = openedOf s in
     let r : (length s ≡ 48) × (first (openedChecks (zeroBytes s) f) ≡ 0) = of-length (length s) 48 (openedChecks (zeroBytes s) f) e in
     let none = accepted (openedChecks (zeroBytes s) f) refl .0 (r .1) in
-    let q : zeroBytes s && leb (f .tide) 1 ≡ true = unmet (zeroBytes s && leb (f .tide) 1) (none 2 (lit< tt)) in
+    let q : zeroBytes s && leb (f .tide) 1 ≡ true = not-false (zeroBytes s && leb (f .tide) 1) (none 2 (lit< tt)) in
     record {
       long = r .0;
       zeros = and-left (zeroBytes s) (leb (f .tide) 1) q;
       held =
           record {
-            site = unmet (siteShape (f .site)) (none 0 (lit< tt));
-            frame = unmet (knownFrame (f .frame)) (none 1 (lit< tt));
+            site = not-false (siteShape (f .site)) (none 0 (lit< tt));
+            frame = not-false (knownFrame (f .frame)) (none 1 (lit< tt));
             tide = and-right (zeroBytes s) (leb (f .tide) 1) q;
-            epoch = unmet (epochFits (f .epoch)) (none 3 (lit< tt));
-            mark = unmet (marked (f .mark)) (none 4 (lit< tt));
-            speed = sized-is 5000 (f .speed) (unmet (sized 5000 (f .speed)) (none 5 (lit< tt)));
-            offset = sized-is 10000000 (f .offset) (unmet (sized 10000000 (f .offset)) (none 6 (lit< tt)));
+            epoch = not-false (epochFits (f .epoch)) (none 3 (lit< tt));
+            mark = not-false (marked (f .mark)) (none 4 (lit< tt));
+            speed = sized-is 5000 (f .speed) (not-false (sized 5000 (f .speed)) (none 5 (lit< tt)));
+            offset = sized-is 10000000 (f .offset) (not-false (sized 10000000 (f .offset)) (none 6 (lit< tt)));
           };
     }
 

@@ -10,5 +10,6 @@ pub mod FieldLaws
 pub mod ReturnLaws
 pub mod StepLaws
 pub mod AnswerLaws
+pub mod BytesLaws
 pub mod CallLaws
 pub mod Cases

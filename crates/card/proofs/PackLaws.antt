@@ -9,6 +9,7 @@ use lib.Dec.{eqb, lit<}
 use lib.ListN.{length, getD, take, drop, length-append, length-drop, take-append-drop}
 use lib.Seq.{take-all, take-add, drop-cons, drop-drop, getD-drop}
 use lib.IntN.{ℤ, pos}
+use Rattle.algebra.proofs.BoolLaws.{and-left, and-right}
 use Rattle.octets.specs.Octets.{bytesOf, splice}
 use Rattle.octets.proofs.OctetLaws.{Bytes, splice-all, splice-append}
 use Rattle.mark.specs.Mark.{vec}
@@ -18,7 +19,6 @@ use Rattle.card.specs.Layout.{Fields, run, three, vectorAt, head, splice
 use Rattle.card.specs.Field.{offsetOf, speedOf, fieldOf, openedOf, zeroBytes}
 use Rattle.card.proofs.LayoutLaws.{length-run, length-head, splice-run, splice-three, splice-head}
 use Rattle.card.proofs.RunLaws.{fieldsAt, Ranged, bytes-append, bytes-zero, bytes-run, bytes-head, HeadOf, read-run, read-past, write-run, read-head, write-head}
-use Rattle.card.proofs.ValidLaws.{and-left, and-right}
 
 abbrev pub openedFields : Opened → Fields
 openedFields f = (4, f .epoch) ∷ three 4 (f .mark) (three 4 (f .offset) (three 2 (f .speed) []))

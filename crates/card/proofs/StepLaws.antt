@@ -9,6 +9,7 @@ use lib.Dec.{lit<}
 use lib.IntN.{ℤ, natAbs, _+ℤ_, _-ℤ_, _*ℤ_}
 use mir.Syntax.{w64}
 use mir.Val.{toZ, ofZ}
+use Rattle.algebra.proofs.BoolLaws.{both}
 use Rattle.algebra.proofs.Difference.{split, ℤ⊖}
 use Rattle.algebra.proofs.Machine.{Va, plain, at, v+, v-, v*}
 use Rattle.mark.specs.declared.Vec3.{Vec3}
@@ -28,7 +29,7 @@ use Rattle.card.specs.declared.Answer.{Answer}
 use Rattle.card.specs.Checks.{minus, scaled, epochFits, velocityFits, positionFits, checks, cardNumber, Valid}
 use Rattle.card.specs.Calls.{Call, move, frame, meanOn, meanOff, solidOn, solidOff, frameAt, moved, reframed, next, near-mark, own, callNumber, settle, step}
 use Rattle.card.specs.Steps.{after, placedAt}
-use Rattle.card.proofs.CheckLaws.{both, tide-within, positive-checks, number-valid}
+use Rattle.card.proofs.CheckLaws.{tide-within, positive-checks, number-valid}
 
 abbrev pub answer : ℕ → Card → Answer
 answer n c = record { number = n; card = c }

@@ -1,6 +1,6 @@
 -- A walk along a table of refusals: a condition that is not met leads on, one that is met gives its number.
-use mathlib.Core.Path.{_≡_, refl, sym, ap, _∙_}
-use mathlib.Core.Bool.{Bool, true, false, not, _&&_}
+use mathlib.Core.Path.{_≡_, refl, sym, _∙_}
+use mathlib.Core.Bool.{Bool, true, false, not}
 use mathlib.Core.List.{_∷_}
 use Prim.Native.Nat.{ℕ, suc, _≤_, _<_, suc-le-suc}
 use native.Mathlib.Omega.{arith}
@@ -18,16 +18,6 @@ passed n b t e = rw e
 pub stopped : (n : ℕ) (b : Bool) (t : Table) → b ≡ false → n ≡ first ((n, not b) ∷ t)
 unfolding first
 stopped n b t e = rw e
-
--- both parts of a condition
-pub and-true : (a b : Bool) → a ≡ true → b ≡ true → a && b ≡ true
-and-true a b e f = rw (e, f)
-
-pub and-first : (a b : Bool) → a ≡ false → a && b ≡ false
-and-first a b e = rw e
-
-pub and-second : (a b : Bool) → a ≡ true → b ≡ false → a && b ≡ false
-and-second a b e f = rw (e, f)
 
 -- a frame by its code
 pub frame-known : (g : ℕ) → g ≤ 2 → knownFrame g ≡ true

@@ -1,13 +1,14 @@
 -- More of a card that passed its checks: the length before them, its nine bytes of site, and byte 10 without solid tide.
-use mathlib.Core.Path.{_≡_, refl, sym, ap, subst}
-use mathlib.Core.Bool.{Bool, true, false, not, _&&_, _||_, true≢false}
+use mathlib.Core.Path.{_≡_, refl, ap}
+use mathlib.Core.Bool.{Bool, true, false, not, _||_}
 use mathlib.Core.List.{List, _∷_}
 use Prim.Native.Nat.{ℕ, _≤_}
 use native.Mathlib.Omega.{arith}
 use borrow.Author.Tests.{leb-true, eq-eqb, eqb-true, eqb-false}
-use lib.Dec.{T, leb, eqb, lit≤}
+use lib.Dec.{leb, eqb, lit≤}
 use lib.ListN.{length}
 use lib.IntN.{ℤ, pos, negsuc, natAbs}
+use Rattle.algebra.proofs.BoolLaws.{and-left, and-right}
 use Rattle.mark.specs.declared.Vec3.{Vec3}
 use Rattle.mark.specs.Mark.{nowhere, marked}
 use Rattle.mark.specs.Refusal.{Table, choose, first}
@@ -15,26 +16,7 @@ use Rattle.mark.specs.Ranges.{Within}
 use Rattle.mark.proofs.LengthLaws.{vec≡, widen}
 use Rattle.mark.proofs.MarkLaws.{accepted-within}
 use Rattle.card.specs.Checks.{sized, shapeFrom, siteShape, isZero, tideFits, positionFits}
-use Rattle.card.proofs.CheckLaws.{both, sized-is, position-small}
-
--- ---- tests
-
-pub and-left : (a b : Bool) → a && b ≡ true → a ≡ true
-and-left a b e = both a b e .0
-
-pub and-right : (a b : Bool) → a && b ≡ true → b ≡ true
-and-right a b e = both a b e .1
-
-pub and-both : (a b : Bool) → a ≡ true → b ≡ true → a && b ≡ true
-and-both a b e f = rw (e, f)
-
--- a refusal that is not met
-pub unmet : (b : Bool) → not b ≡ false → b ≡ true
-unmet true e = refl
-unmet false e = absurd (true≢false e)
-
-pub so : (b : Bool) → b ≡ true → T b
-so b e = subst T (sym e) tt
+use Rattle.card.proofs.CheckLaws.{sized-is, position-small}
 
 -- ---- a table that starts with the length
 

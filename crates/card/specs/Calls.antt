@@ -1,17 +1,17 @@
 -- The calls on a card, each in one form: its own checks, the card that comes next, and one way to settle the two.
 use Prim.Native.Nat.{ℕ}
-use mathlib.Core.List.{List, [], _∷_, _++_}
-use mathlib.Core.Bool.{Bool, true, not, cond, _&&_}
+use mathlib.Core.List.{[], _∷_, _++_}
+use mathlib.Core.Bool.{true, not, cond}
 use lib.Dec.{eqb}
-use lib.IntN.{ℤ, _+ℤ_, _-ℤ_, _*ℤ_}
+use lib.IntN.{ℤ, _+ℤ_}
 use Rattle.mark.specs.declared.Vec3.{Vec3}
 use Rattle.mark.specs.declared.Body.{Body}
-use Rattle.mark.specs.Mark.{vec, nowhere}
+use Rattle.mark.specs.Mark.{nowhere}
 use Rattle.mark.specs.Permanent.{permanent}
-use Rattle.mark.specs.Frame.{knownFrame, frameA, frameB}
+use Rattle.mark.specs.Frame.{knownFrame, frameB}
 unfoldable pub use Rattle.mark.specs.Frame.{frameAt}
-use Rattle.mark.specs.Bodies.{moon, sun, finite, inReach, paired, moonOf, sunOf}
-use Rattle.mark.specs.Tide.{plus, tide}
+use Rattle.mark.specs.Bodies.{moonOf, sunOf}
+use Rattle.mark.specs.Tide.{plus, tide, pairChecks}
 use Rattle.mark.specs.Refusal.{Table, first}
 use Rattle.card.specs.declared.Card.{Card}
 use Rattle.card.specs.declared.Answer.{Answer}
@@ -78,12 +78,7 @@ own c n (move d) = (13, eqb (c .tide) 2) ∷ (5, not (epochFits (n .epoch))) ∷
 own c n (frame g) = (3, not (knownFrame g)) ∷ (7, not (velocityFits (n .velocity))) ∷ near-mark n
 own c n meanOn = (12, not (eqb (c .tide) 0)) ∷ near-mark n
 own c n meanOff = (12, not (eqb (c .tide) 1)) ∷ near-mark n
-own c n (solidOn a b) =
-    (12, not (eqb (c .tide) 0))
-    ∷ (17, not (paired a b))
-    ∷ (10, not (finite (moonOf a b) && finite (sunOf a b)))
-    ∷ (11, not (inReach moon (moonOf a b) && inReach sun (sunOf a b)))
-    ∷ near-mark n
+own c n (solidOn a b) = (12, not (eqb (c .tide) 0)) ∷ pairChecks a b ++ near-mark n
 own c n solidOff = (12, not (eqb (c .tide) 2)) ∷ near-mark n
 
 -- the card's checks, then the call's own

@@ -1,20 +1,17 @@
 -- A card's checks 2 to 9, in the paper's order. A card is accepted where none is met.
 use Prim.Native.Nat.{ℕ, zero, suc, _+_, _*_}
-use mathlib.Core.List.{List, [], _∷_, _++_}
+use mathlib.Core.List.{List, [], _∷_}
 use mathlib.Core.Bool.{Bool, true, not, cond, _&&_, _||_}
 use lib.Dec.{T, leb, eqb}
 use lib.ListN.{length, getD}
-use lib.IntN.{ℤ, pos, natAbs, _+ℤ_, _-ℤ_, _*ℤ_}
+use lib.IntN.{ℤ, pos, natAbs}
 use Rattle.mark.specs.declared.Vec3.{Vec3}
-use Rattle.mark.specs.Mark.{vec, nowhere, between, marked}
+use Rattle.mark.specs.Mark.{between, marked}
+pub use Rattle.mark.specs.Mark.{metre}
 unfoldable pub use Rattle.mark.specs.Mark.{minus, scaled}
 use Rattle.mark.specs.Frame.{knownFrame}
 use Rattle.mark.specs.Refusal.{Table, first}
 use Rattle.card.specs.declared.Card.{Card}
-
--- grains in a metre
-abbrev pub metre : ℕ
-metre = 1461000000
 
 -- each of three numbers is at most n in size
 unfoldable pub sized : ℕ → Vec3 → Bool

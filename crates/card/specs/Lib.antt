@@ -6,3 +6,5 @@ pub mod Field
 pub mod Calls
 pub mod MetresOut
 pub mod Steps
+pub mod Bytes
+pub mod Sample

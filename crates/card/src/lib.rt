@@ -6,6 +6,7 @@ ghost use Rattle.card.specs.Checks as K;
 ghost use Rattle.card.specs.Codec as C;
 ghost use Rattle.card.specs.Field as F;
 ghost use Rattle.card.specs.Calls as L;
+ghost use Rattle.card.specs.Bytes as B;
 ghost use Rattle.card.specs.MetresOut as M;
 use mark::Body;
 use mark::Vec3;
@@ -42,6 +43,17 @@ pub struct Metres {
     pub x: f64,
     pub y: f64,
     pub z: f64,
+}
+
+// A call on a card, as data.
+pub enum Call {
+    // quarter-days
+    Move(i64),
+    Frame(u8),
+    MeanOn,
+    MeanOff,
+    SolidOn(Body, Body),
+    SolidOff,
 }
 
 mod steps;
@@ -114,6 +126,31 @@ pub fn expand(s: &[u8]) -> Answer
         number: 0,
         card: steps::expanded(opened),
     }
+}
+
+// A call from a card's bytes to a buffer: 1 where the buffer has not exactly 88 bytes, then the record's own checks, 1 to 9, then
+// the call's. The card is checked once. Refused, no byte is written.
+pub fn call_bytes(s: &[u8], k: Call, out: &mut [u8]) -> u32
+    ensures { λ r. ⌜ r ≡ B.bytesNumber (length (now (out .entry))) (now (s .entry)) (B.callOf k) ⌝ }
+    ensures { λ _. ⌜ now (out .exit) ≡ B.bytesOut (now (out .entry)) (now (s .entry)) (B.callOf k) ⌝ }
+{
+    if out.len() != 88 {
+        return 1;
+    }
+    if s.len() != 88 {
+        return 1;
+    }
+    let card = steps::decode(s);
+    let own = steps::number(card, s[11] == 0);
+    if own != 0 {
+        return own;
+    }
+    let answer = steps::called(card, k);
+    if answer.number != 0 {
+        return answer.number;
+    }
+    steps::encode(answer.card, out);
+    0
 }
 
 // Nine bytes of site shape: five digits, M or S, three digits.

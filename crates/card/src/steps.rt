@@ -14,7 +14,9 @@ ghost use Rattle.card.specs.Field as F;
 ghost use Rattle.card.specs.Calls as L;
 ghost use Rattle.card.specs.MetresOut as M;
 ghost use Rattle.card.specs.Steps as S;
+ghost use Rattle.card.specs.Bytes as B;
 use crate::Answer;
+use crate::Call;
 use crate::Card;
 use mark::Body;
 use mark::Vec3;
@@ -214,6 +216,10 @@ pub fn decode(s: &[u8]) -> Card
     requires { ⌜ length (now s) ≡ 88 ⌝ }
     ensures { λ r. ⌜ r ≡ C.decode (now (s .entry)) ⌝ }
 {
+    // never met; it tells the compiler the length, so that no byte's place is tested
+    if s.len() != 88 {
+        return refused(1).card;
+    }
     let site = site_of(s);
     Card {
         site,
@@ -564,4 +570,19 @@ pub fn solid_taken(c: Card) -> Answer
     let p = minus(c.position, c.solid);
     let zero = Vec3 { x: 0, y: 0, z: 0 };
     placed(c, 0, p, zero)
+}
+
+// The call that k is.
+pub fn called(c: Card, k: Call) -> Answer
+    requires { ⌜ K.Valid c ⌝ }
+    ensures { λ r. ⌜ r ≡ S.after c (B.callOf k) ⌝ }
+{
+    match k {
+        Call::Move(d) => moved(c, d),
+        Call::Frame(g) => reframed(c, g),
+        Call::MeanOn => mean_added(c),
+        Call::MeanOff => mean_taken(c),
+        Call::SolidOn(a, b) => solid_added(c, a, b),
+        Call::SolidOff => solid_taken(c),
+    }
 }

@@ -1,16 +1,16 @@
 -- Lookup: each outcome of the table by itself, and where a found record lies. Assumes nothing.
 use mathlib.Core.Path.{_≡_, refl, sym, ap, _∙_}
-use mathlib.Core.Bool.{Bool, true, false, not, cond, _&&_, false≢true}
+use mathlib.Core.Bool.{Bool, true, false}
 use mathlib.Core.List.{List, []}
 use mathlib.Core.Logic.{_⊎_, inl, inr, ⊎-elim}
 use Prim.Native.Nat.{ℕ, zero, suc, _+_, _-_, _*_, _/_, _%_, _≤_, _<_}
 use native.Mathlib.Omega.{arith}
-use borrow.Author.Tests.{eq-eqb, ne-eqb, eqb-true, eqb-false, lt-ltb, le-ltb, ltb-true, ltb-false}
+use borrow.Author.Tests.{ne-eqb, eqb-true, eqb-false, lt-ltb, le-ltb, ltb-true, ltb-false}
 use lib.Dec.{eqb, ltb}
 use lib.ListN.{length, take, drop}
 use lib.Seq.{drop-length, take-nil}
 use Rattle.mark.specs.Refusal.{first}
-use Rattle.card.specs.Checks.{siteShape, shapeFrom}
+use Rattle.card.specs.Checks.{siteShape}
 use Rattle.catalogue.specs.declared.Found.{Found}
 use Rattle.catalogue.specs.Lookup.{hasSite, firstFrom, firstPlace, findNumber, findPlace, findPart, found}
 
@@ -46,15 +46,6 @@ first-within s key at (suc n) = by (hasSite s key at) refl (first-within s key (
         ⊎-elim (λ l. inl (omega arith)) (λ l. inr (omega arith)) later
 
 -- ---- the table
-
--- a key of site shape has nine bytes
-pub site-nine : (key : List ℕ) → siteShape key ≡ true → length key ≡ 9
-unfolding siteShape
-site-nine key h = eqb-true (length key) 9 (left (eqb (length key) 9) (shapeFrom key 0 9) h)
-  where
-    left : (a b : Bool) → a && b ≡ true → a ≡ true
-    left true b e = refl
-    left false b e = e
 
 number-2 : (s key : List ℕ) → siteShape key ≡ false → findNumber s key ≡ 2
 unfolding findNumber first

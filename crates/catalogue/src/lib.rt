@@ -28,6 +28,12 @@ pub struct Taken {
     pub next: usize,
 }
 
+// A reader over a lent catalogue: the bytes, and the place of the next step in bytes.
+pub struct Reader<'a> {
+    src: &'a [u8],
+    at: usize,
+}
+
 // The first record whose first nine bytes are the key's, as the part of the catalogue that it is.
 // Refused, an empty part at the catalogue's end.
 pub fn find<'a>(catalogue: &'a [u8], key: &[u8]) -> &'a [u8]
@@ -89,6 +95,25 @@ pub fn take_at(s: &[u8], at: usize) -> Taken
         card,
         next: end,
     }
+}
+
+// A reader at the catalogue's first byte.
+pub fn open<'a>(src: &'a [u8]) -> Reader<'a>
+    ensures { λ r. ⌜ r .src ≡ src .entry ⌝ }
+    ensures { λ r. ⌜ r .at ≡ 0 ⌝ }
+{
+    Reader { src, at: 0 }
+}
+
+// The next step: what `take_at` gives at the reader's place, which moves on.
+pub fn next<'s, 'a>(r: &'s mut Reader<'a>) -> Taken
+    ensures { λ t. ⌜ t ≡ R.takenAt (now (now (r .entry) .src)) (now (r .entry) .at) ⌝ }
+    ensures { λ _. ⌜ now (r .exit) .src ≡ now (r .entry) .src ⌝ }
+    ensures { λ _. ⌜ now (r .exit) .at ≡ R.takenAt (now (now (r .entry) .src)) (now (r .entry) .at) .next ⌝ }
+{
+    let taken = take_at(r.src, r.at);
+    r.at = taken.next;
+    taken
 }
 
 // Writes the listing line of one part from the buffer's first byte on, and answers how many bytes the line has, at most 120.

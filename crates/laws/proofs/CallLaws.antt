@@ -1,43 +1,10 @@
--- One call: an accepted call starts from a valid card and meets its own conditions, and a refused one hands the card back.
+-- One call: an accepted one gives the next card, with its frame and its tides; a refused one hands the card back.
 use mathlib.Core.Path.{_≡_, refl}
 use mathlib.Core.Bool.{Bool, true, false, cond}
-use mathlib.Core.List.{_++_}
 use lib.Dec.{T, eqb→eq}
-use Rattle.mark.specs.Refusal.{Table, first}
 use Rattle.card.specs.declared.Card.{Card}
-use Rattle.card.specs.Checks.{checks}
-use Rattle.card.specs.Calls.{Call, move, frame, meanOn, meanOff, solidOn, solidOff, moved, reframed, next, own, callNumber, settle, step}
+use Rattle.card.specs.Calls.{Call, move, frame, meanOn, meanOff, solidOn, solidOff, moved, reframed, next, callNumber, settle, step}
 use Rattle.laws.specs.Lists.{accepts, moveOf, gain, tidesOf, frameAfter, tidesAfter}
-use Rattle.laws.proofs.FirstLaws.{Clear, numbered, clear, clear-++, after-clear}
-use Rattle.card.proofs.CheckLaws.{Passed}
-use Rattle.laws.proofs.CheckLaws.{passed-clear, clear-passed}
-
--- ---- accepted: the card's checks and the call's own are clear
-
-pub record Taken (c : Card) (k : Call) : Type 0 where
-  pub card : Passed c
-  pub call : Clear (own c (next c k) k)
-
-all-numbered : (c n : Card) (k : Call) → T (numbered (checks true c ++ own c n k))
-unfolding checks own
-all-numbered c n (move d) = tt
-all-numbered c n (frame g) = tt
-all-numbered c n meanOn = tt
-all-numbered c n meanOff = tt
-all-numbered c n (solidOn a b) = tt
-all-numbered c n solidOff = tt
-
-pub taken : (c : Card) (k : Call) → callNumber c k ≡ 0 → Taken c k
-unfolding callNumber
-taken c k e =
-    let t : Table = own c (next c k) k in
-    let h = clear-++ (checks true c) t (clear (checks true c ++ t) (all-numbered c (next c k) k) e) in
-    record { card = passed-clear c (h .0); call = h .1 }
-
--- on a valid card the number is the call's own
-pub own-number : (c : Card) (k : Call) → Passed c → callNumber c k ≡ first (own c (next c k) k)
-unfolding callNumber
-own-number c k p = after-clear (checks true c) (own c (next c k) k) (clear-passed p)
 
 -- ---- the two outcomes of a call
 

@@ -3,6 +3,7 @@ use mathlib.Core.Path.{_≡_, refl, sym, _∙_, ap}
 use mathlib.Core.Bool.{Bool, cond}
 use mathlib.Core.List.{[], _∷_}
 use Prim.Native.Nat.{ℕ}
+use lib.Dec.{eqb, lit<}
 use lib.IntN.{ℤ, pos, _+ℤ_}
 use Rattle.algebra.proofs.Ring.{by-ring, quote}
 use Rattle.mark.specs.declared.Vec3.{Vec3}
@@ -11,14 +12,17 @@ use Rattle.mark.specs.Permanent.{permanent}
 use Rattle.mark.specs.Frame.{frameA, frameB}
 use Rattle.mark.specs.Bodies.{moonOf, sunOf}
 use Rattle.mark.specs.Tide.{plus, tide}
+use Rattle.mark.proofs.RefusalLaws.{NoneHolds}
 use Rattle.card.specs.declared.Card.{Card}
 use Rattle.card.specs.Checks.{minus}
 use Rattle.card.specs.Calls.{Call, move, frame, meanOn, meanOff, solidOn, solidOff, with-position, frameAt, moved, reframed, next, own, callNumber, step}
+use Rattle.card.proofs.CheckLaws.{Passed, passed}
+use Rattle.card.proofs.ValidLaws.{solid-none}
+use Rattle.card.proofs.CallLaws.{card-accepted, own-accepted, byte-is}
 use Rattle.laws.specs.Lists.{Tides, tidesOf, moveOf, gain, meanShift, inForce, bare, steady, formula}
 use Rattle.laws.specs.Core.{Core, core, later, dressed}
-use Rattle.laws.proofs.VectorLaws.{back, back-two, forth, forth-two, scaled-nothing, scaled-twice, moved-bare, reframed-bare, reframed-steady, mean-on, mean-off, solid-on, solid-off}
-use Rattle.laws.proofs.CallLaws.{Taken, taken, settled}
-use Rattle.laws.proofs.TideCases.{shift-free, shift-mean, shift-solid, stored-nowhere, byte-is, not-two}
+use Rattle.laws.proofs.VectorLaws.{back, back-two, scaled-nothing, scaled-twice, moved-bare, reframed-bare, reframed-steady, mean-on, mean-off, solid-on, solid-off}
+use Rattle.laws.proofs.CallLaws.{settled}
 
 -- ---- the core and the card
 
@@ -35,18 +39,6 @@ dressed-core c = λ i.
       velocity = back (c .velocity) (frameB (c .frame) (c .mark)) i;
       position = back-two (c .position) (inForce (tidesOf c) (c .mark)) (frameAt (c .frame) (c .mark) (c .epoch)) i;
       solid = c .solid;
-    }
-
--- and a core is the core of any card that it makes
-pub core-dressed : (b : Core) (g : ℕ) (t : Tides) → core (dressed b g t) ≡ b
-unfolding dressed core bare steady
-core-dressed b g t = λ i.
-    record {
-      site = b .site;
-      mark = b .mark;
-      epoch = b .epoch;
-      velocity = forth (b .velocity) (frameB g (b .mark)) i;
-      position = forth-two (b .position) (inForce t (b .mark)) (frameAt g (b .mark) (b .epoch)) i;
     }
 
 -- the formula moves the core and dresses it anew
@@ -129,46 +121,37 @@ core-tides c byte p v e = λ i.
       position = minus (e i) (frameAt (c .frame) (c .mark) (c .epoch));
     }
 
--- from one tide to another: the bytes, and what both mean for the permanent shift
+-- from one byte 10 to another
 retided :
-    (c : Card) (from byte : ℕ) (p v h h′ : Vec3)
+    (c : Card) (from byte : ℕ) (p v : Vec3)
     → c .tide ≡ from
-    → meanShift from (c .mark) ≡ h
-    → meanShift byte (c .mark) ≡ h′
-    → minus p (plus v h′) ≡ minus (c .position) (plus (c .solid) h)
+    → minus p (plus v (meanShift byte (c .mark))) ≡ minus (c .position) (plus (c .solid) (meanShift from (c .mark)))
     → core (with-position c byte p v) ≡ later (pos 0) (core c)
 unfolding inForce
-retided c from byte p v h h′ t e e′ k =
-    core-tides c byte p v (rw (t, e, e′) k) ∙ sym (later-nothing (core c))
+retided c from byte p v t k = core-tides c byte p v (rw t k) ∙ sym (later-nothing (core c))
 
-core-kept : (c : Card) (k : Call) → Taken c k → core (next c k) ≡ later (moveOf k) (core c)
-unfolding next own
-core-kept c (move d) t = core-moved d c
-core-kept c (frame g) t = core-reframed g c ∙ sym (later-nothing (core c))
-core-kept c meanOn t =
-    let h = permanent (c .mark) in
-    retided c 0 1 (plus (c .position) h) (c .solid) nowhere h (byte-is (c .tide) 0 (t .call .0)) (shift-free (c .mark))
-    (shift-mean (c .mark))
-    (mean-on (c .position) (c .solid) h)
-core-kept c meanOff t =
-    let h = permanent (c .mark) in
-    retided c 1 0 (minus (c .position) h) (c .solid) h nowhere (byte-is (c .tide) 1 (t .call .0)) (shift-mean (c .mark))
-    (shift-free (c .mark))
-    (mean-off (c .position) (c .solid) h)
-core-kept c (solidOn a b) t =
+core-kept : (c : Card) (k : Call) → Passed c → NoneHolds (own c (next c k) k) → core (next c k) ≡ later (moveOf k) (core c)
+unfolding next own meanShift
+core-kept c (move d) p h = core-moved d c
+core-kept c (frame g) p h = core-reframed g c ∙ sym (later-nothing (core c))
+core-kept c meanOn p h =
+    let s = permanent (c .mark) in
+    retided c 0 1 (plus (c .position) s) (c .solid) (byte-is (c .tide) 0 (h 0 (lit< tt))) (mean-on (c .position) (c .solid) s)
+core-kept c meanOff p h =
+    let s = permanent (c .mark) in
+    retided c 1 0 (minus (c .position) s) (c .solid) (byte-is (c .tide) 1 (h 0 (lit< tt))) (mean-off (c .position) (c .solid) s)
+core-kept c (solidOn a b) p h =
     let v = tide (c .mark) (moonOf a b) (sunOf a b) in
-    let free = byte-is (c .tide) 0 (t .call .0) in
-    let none = stored-nowhere (c .tide) (c .solid) (t .card .tide) (not-two free refl) in
-    retided c 0 2 (plus (c .position) v) v nowhere nowhere free (shift-free (c .mark)) (shift-solid (c .mark))
+    let free = byte-is (c .tide) 0 (h 0 (lit< tt)) in
+    let none = solid-none (c .tide) (c .solid) (p .tide) (ap (λ (n : ℕ). eqb n 2) free) in
+    retided c 0 2 (plus (c .position) v) v free
     (solid-on (c .position) v nowhere ∙ ap (λ (s : Vec3). minus (c .position) (plus s nowhere)) (sym none))
-core-kept c solidOff t =
-    retided c 2 0 (minus (c .position) (c .solid)) nowhere nowhere nowhere (byte-is (c .tide) 2 (t .call .0))
-    (shift-solid (c .mark))
-    (shift-free (c .mark))
+core-kept c solidOff p h =
+    retided c 2 0 (minus (c .position) (c .solid)) nowhere (byte-is (c .tide) 2 (h 0 (lit< tt)))
     (solid-off (c .position) (c .solid) nowhere)
 
 pub core-next : (c : Card) (k : Call) → callNumber c k ≡ 0 → core (next c k) ≡ later (moveOf k) (core c)
-core-next c k e = core-kept c k (taken c k e)
+core-next c k e = core-kept c k (passed c (card-accepted c k e)) (own-accepted c k e)
 
 -- refused or accepted, a call moves the core by what it gains
 pub core-step : (c : Card) (k : Call) → core (step c k .card) ≡ later (gain c k) (core c)

@@ -13,8 +13,8 @@ use Rattle.mark.specs.Refusal.{first}
 use Rattle.card.specs.declared.Card.{Card}
 use Rattle.card.specs.Checks.{sized, minus, scaled, digit, shapeAt, shapeFrom, siteShape, isZero, tideFits, epochFits, velocityFits, fromMark, positionFits, vectorFits, checks, cardNumber, Valid}
 use Rattle.card.specs.Calls.{Call, move, frame, meanOn, meanOff, frameAt, moved, reframed, next, own, callNumber, settle, step}
-use Rattle.laws.proofs.FirstLaws.{_⨾_}
 use Rattle.card.specs.Field.{roundedBy, offsetOf, speedOf, expandedOf}
+use Rattle.card.specs.Sample.{at}
 use Rattle.card.proofs.PackLaws.{taken}
 use Rattle.laws.specs.Lists.{run, numbers, Accepted, gain, net}
 
@@ -37,17 +37,7 @@ computing = 0
 
 -- 90001M001 in ITRF2008 at 2000.0, at its mark
 abbrev pub example : Card
-example =
-    record {
-      site = 57 ∷ 48 ∷ 48 ∷ 48 ∷ 49 ∷ 77 ∷ 48 ∷ 48 ∷ 49 ∷ [];
-      frame = 0;
-      tide = 0;
-      epoch = pos 0;
-      mark = vec (pos 6378137) (pos 0) (pos 0);
-      velocity = vec (pos 20000) (pos 0) (pos 0);
-      position = vec (pos 9318458157000000) (pos 0) (pos 0);
-      solid = nowhere;
-    }
+example = at (pos 0)
 
 -- a year on; mean on; mean on again (12); ITRF2005; mean off; 146,100 more (5); frame 9 (3)
 abbrev pub calls : List Call
@@ -96,6 +86,11 @@ uneven =
       position = vec (pos 9318458157070000) (pos 0) (pos 0);
       solid = nowhere;
     }
+
+-- facts about the calls of a list in turn: `p ⨾ q ⨾ tt`
+infixr 5 _⨾_
+abbrev _⨾_ : {A B : Type 0} → A → B → A × B
+a ⨾ b = (a, b)
 
 abbrev pub short : List Call
 short = move (pos 1461) ∷ meanOn ∷ frame 1 ∷ meanOff ∷ []

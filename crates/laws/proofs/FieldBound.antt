@@ -13,7 +13,7 @@ use Rattle.laws.specs.Lists.{run, net, Accepted}
 use Rattle.laws.specs.TwoCards.{Alike, halfUnit, halfSpeed, fieldBound}
 use Rattle.laws.proofs.VectorLaws.{later-within}
 use Rattle.card.proofs.CheckLaws.{valid-passed}
-use Rattle.laws.proofs.TideCases.{stored-nowhere}
+use Rattle.card.proofs.ValidLaws.{solid-none}
 use Rattle.laws.proofs.TwoCardLaws.{difference}
 
 -- any bounds: grains a at first and grains a quarter-day b end within a + b x |net quarter-days|, each coordinate
@@ -41,8 +41,8 @@ pub alike-unstored :
     → eqb (c .tide) 2 ≡ false
     → Alike c c′
 alike-unstored c c′ v v′ m f e t n =
-    let z = stored-nowhere (c .tide) (c .solid) (valid-passed c v .tide) n in
-    let z′ = stored-nowhere (c′ .tide) (c′ .solid) (valid-passed c′ v′ .tide) (subst (λ (b : ℕ). eqb b 2 ≡ false) t n) in
+    let z = solid-none (c .tide) (c .solid) (valid-passed c v .tide) n in
+    let z′ = solid-none (c′ .tide) (c′ .solid) (valid-passed c′ v′ .tide) (subst (λ (b : ℕ). eqb b 2 ≡ false) t n) in
     let same : c .solid ≡ c′ .solid = z ∙ sym z′ in
     record { mark = m; frame = f; epoch = e; tides = λ i. record { byte = t i; stored = same i } }
 

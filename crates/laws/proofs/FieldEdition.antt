@@ -1,10 +1,9 @@
 -- The field edition of a card, whatever list both accept: the card expanded from the exported record stays within the field bound.
-use mathlib.Core.Path.{_≡_, refl, sym, ap, _∙_, subst, subst⁻¹}
+use mathlib.Core.Path.{_≡_, sym, ap, _∙_, subst, subst⁻¹}
 use mathlib.Core.Bool.{false}
 use mathlib.Core.List.{List}
-use Prim.Native.Nat.{ℕ, _+_, _*_, _≤_}
+use Prim.Native.Nat.{ℕ, _≤_}
 use lib.Dec.{eqb}
-use lib.IntN.{ℤ, natAbs, _-ℤ_}
 use lib.ListN.{length}
 use Rattle.algebra.proofs.IntLaws.{abs-swap}
 use Rattle.mark.specs.declared.Vec3.{Vec3}

@@ -114,6 +114,9 @@ series-one κs a z z′ w w′ p q i = (same (p .0) (q .0) i, (w .0, (w .1 .0, (
 pub write-one : OneOutcome 1 card.write.Kinds.ps card.write.Kinds.r card.write.Reads.Learnt
 write-one κs a z z′ w w′ p q i = (same (p .0) (q .0) i, (w .0, (same (p .1) (q .1) i, w .1 .1)))
 
+pub call-bytes-one : OneOutcome 2 card.call_bytes.Kinds.ps card.call_bytes.Kinds.r card.call_bytes.Reads.Learnt
+call-bytes-one κs a z z′ w w′ p q i = (same (p .0) (q .0) i, (w .0, (w .1 .0, (same (p .1) (q .1) i, w .1 .1 .1))))
+
 pub export-one : OneOutcome 1 card.export.Kinds.ps card.export.Kinds.r card.export.Reads.Learnt
 export-one κs a z z′ w w′ p q i = (same (p .0) (q .0) i, (w .0, (same (p .1) (q .1) i, w .1 .1)))
 

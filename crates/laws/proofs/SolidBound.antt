@@ -19,9 +19,9 @@ use Rattle.mark.specs.Bodies.{Kind, moon, sun, wholes, inReach}
 use Rattle.mark.specs.Tide.{nearness, strength, partOf, plus, tideAt, tide}
 use Rattle.mark.specs.Ranges.{Direction}
 use Rattle.mark.proofs.DirectionLaws.{mark-direction, body-sum, cosine-bound}
-use Rattle.mark.proofs.TideLaws.{moon-strength, sun-strength}
+use Rattle.mark.proofs.TideLaws.{moon-strength, sun-strength, reached as body-far}
 use Rattle.laws.specs.Formulas.{bound, Vector, _+ᵛ_, Close, Puller, metre, grains, direction, Re, theMoon, theSun, inMetres, strengthAt, pulled, solidFormula}
-use Rattle.laws.proofs.Distances.{mark-far, body-far, mark-positive, moon-positive, sun-positive}
+use Rattle.laws.proofs.Distances.{mark-far, mark-positive, moon-positive, sun-positive}
 use Rattle.laws.proofs.ErrorTables.{BodyErrors, whole-body}
 use Rattle.laws.proofs.StepValues.{Stands, grains-is, whole-stands}
 use Rattle.laws.proofs.Rearranged.{strength-same}

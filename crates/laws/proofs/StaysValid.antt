@@ -1,17 +1,16 @@
 -- An accepted call's card passes the nine checks again, so every card of a run is valid, and no call answers 9.
 use mathlib.Core.Path.{_≡_, sym, _∙_}
-use mathlib.Core.Bool.{Bool, true, not}
+use mathlib.Core.Bool.{Bool, not}
 use mathlib.Core.List.{List, [], _∷_}
-use Prim.Native.Nat.{ℕ}
 use lib.Dec.{T}
 use Rattle.card.specs.declared.Card.{Card}
 use Rattle.card.specs.Checks.{Valid}
 use Rattle.card.specs.Calls.{Call, move, frame, meanOn, meanOff, solidOn, solidOff, next, own, callNumber, step}
-use Rattle.card.proofs.CheckLaws.{number-valid, valid-passed}
-use Rattle.card.proofs.CallLaws.{stays-valid as accepted-again}
+use Rattle.card.proofs.CheckLaws.{number-valid, valid-number}
+use Rattle.card.proofs.CallLaws.{own-number, stays-valid as accepted-again}
 use Rattle.laws.specs.Lists.{run}
 use Rattle.laws.proofs.FirstLaws.{among, unlisted}
-use Rattle.laws.proofs.CallLaws.{settled, own-number}
+use Rattle.laws.proofs.CallLaws.{settled}
 
 pub next-valid : (c : Card) (k : Call) → callNumber c k ≡ 0 → Valid (next c k)
 next-valid c k e = number-valid (next c k) (accepted-again c k e)
@@ -38,4 +37,4 @@ own-unlisted c n solidOff = tt
 
 pub never-nine : (c : Card) (k : Call) → Valid c → callNumber c k ≡ 9 → ⊥
 never-nine c k v e =
-    unlisted 9 (own c (next c k) k) tt (own-unlisted c (next c k) k) (sym (own-number c k (valid-passed c v)) ∙ e)
+    unlisted 9 (own c (next c k) k) tt (own-unlisted c (next c k) k) (sym (own-number c k (valid-number c v)) ∙ e)

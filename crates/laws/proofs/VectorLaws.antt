@@ -1,4 +1,4 @@
--- Vectors: two are equal by their components, and the identities of positions and velocities that the core rests on.
+-- Vectors: the identities of positions and velocities that the core rests on.
 --
 -- Each identity is proved over one axis and lifted to three. p position, v velocity, t the tides in force, a and b the frame's A and B,
 -- f the frame's shift A + B x epoch, g that of another frame, e epoch, d a move.
@@ -14,15 +14,13 @@ use Rattle.mark.specs.declared.Vec3.{Vec3}
 use Rattle.mark.specs.Mark.{nowhere}
 use Rattle.mark.specs.Tide.{plus}
 use Rattle.mark.specs.Ranges.{Within}
+use Rattle.mark.proofs.LengthLaws.{vec≡}
 use Rattle.card.specs.Checks.{minus, scaled}
-
-pub by-axes : {v w : Vec3} → v .x ≡ w .x → v .y ≡ w .y → v .z ≡ w .z → v ≡ w
-by-axes p q r = λ i. record { x = p i; y = q i; z = r i }
 
 -- what was taken away comes back
 pub back : (v w : Vec3) → plus (minus v w) w ≡ v
 unfolding plus minus
-back v w = by-axes (go (v .x) (w .x)) (go (v .y) (w .y)) (go (v .z) (w .z))
+back v w = vec≡ (go (v .x) (w .x)) (go (v .y) (w .y)) (go (v .z) (w .z))
   where
     go : (a b : ℤ) → a -ℤ b +ℤ b ≡ a
     go a b = by-ring (a ∷ b ∷ []) (search quote depth 30) tt
@@ -30,29 +28,18 @@ back v w = by-axes (go (v .x) (w .x)) (go (v .y) (w .y)) (go (v .z) (w .z))
 pub back-two : (p t f : Vec3) → plus (plus (minus (minus p t) f) f) t ≡ p
 back-two p t f = ap (λ (q : Vec3). plus q t) (back (minus p t) f) ∙ back p t
 
--- what was added goes
-pub forth : (v w : Vec3) → minus (plus v w) w ≡ v
-unfolding plus minus
-forth v w = by-axes (go (v .x) (w .x)) (go (v .y) (w .y)) (go (v .z) (w .z))
-  where
-    go : (a b : ℤ) → a +ℤ b -ℤ b ≡ a
-    go a b = by-ring (a ∷ b ∷ []) (search quote depth 30) tt
-
-pub forth-two : (p t f : Vec3) → minus (minus (plus (plus p f) t) t) f ≡ p
-forth-two p t f = ap (λ (q : Vec3). minus q f) (forth (plus p f) t) ∙ forth p f
-
 -- ---- moving
 
 pub scaled-nothing : (p v : Vec3) → plus p (scaled (pos 0) v) ≡ p
 unfolding plus scaled
-scaled-nothing p v = by-axes (go (p .x) (v .x)) (go (p .y) (v .y)) (go (p .z) (v .z))
+scaled-nothing p v = vec≡ (go (p .x) (v .x)) (go (p .y) (v .y)) (go (p .z) (v .z))
   where
     go : (p v : ℤ) → p +ℤ pos 0 *ℤ v ≡ p
     go p v = by-ring (p ∷ v ∷ []) (search quote depth 30) tt
 
 pub scaled-twice : (d e : ℤ) (p v : Vec3) → plus (plus p (scaled d v)) (scaled e v) ≡ plus p (scaled (d +ℤ e) v)
 unfolding plus scaled
-scaled-twice d e p v = by-axes (go (p .x) (v .x)) (go (p .y) (v .y)) (go (p .z) (v .z))
+scaled-twice d e p v = vec≡ (go (p .x) (v .x)) (go (p .y) (v .y)) (go (p .z) (v .z))
   where
     go : (p v : ℤ) → p +ℤ d *ℤ v +ℤ e *ℤ v ≡ p +ℤ (d +ℤ e) *ℤ v
     go p v = by-ring (d ∷ e ∷ p ∷ v ∷ []) (search quote depth 30) tt
@@ -64,7 +51,7 @@ pub moved-bare :
     ≡ plus (minus (minus p t) (plus a (scaled e b))) (scaled d (minus v b))
 unfolding plus minus scaled
 moved-bare p v t a b e d =
-    by-axes
+    vec≡
     (go (p .x) (v .x) (t .x) (a .x) (b .x))
     (go (p .y) (v .y) (t .y) (a .y) (b .y))
     (go (p .z) (v .z) (t .z) (a .z) (b .z))
@@ -77,7 +64,7 @@ moved-bare p v t a b e d =
 pub reframed-bare : (p t f g : Vec3) → minus (minus (plus p (minus g f)) t) g ≡ minus (minus p t) f
 unfolding plus minus
 reframed-bare p t f g =
-    by-axes
+    vec≡
     (go (p .x) (t .x) (f .x) (g .x))
     (go (p .y) (t .y) (f .y) (g .y))
     (go (p .z) (t .z) (f .z) (g .z))
@@ -87,7 +74,7 @@ reframed-bare p t f g =
 
 pub reframed-steady : (v b b′ : Vec3) → minus (plus v (minus b′ b)) b′ ≡ minus v b
 unfolding plus minus
-reframed-steady v b b′ = by-axes (go (v .x) (b .x) (b′ .x)) (go (v .y) (b .y) (b′ .y)) (go (v .z) (b .z) (b′ .z))
+reframed-steady v b b′ = vec≡ (go (v .x) (b .x) (b′ .x)) (go (v .y) (b .y) (b′ .y)) (go (v .z) (b .z) (b′ .z))
   where
     go : (v b b′ : ℤ) → v +ℤ (b′ -ℤ b) -ℤ b′ ≡ v -ℤ b
     go v b b′ = by-ring (v ∷ b ∷ b′ ∷ []) (search quote depth 30) tt
@@ -96,28 +83,28 @@ reframed-steady v b b′ = by-axes (go (v .x) (b .x) (b′ .x)) (go (v .y) (b .y
 
 pub mean-on : (p s h : Vec3) → minus (plus p h) (plus s h) ≡ minus p (plus s nowhere)
 unfolding plus minus
-mean-on p s h = by-axes (go (p .x) (s .x) (h .x)) (go (p .y) (s .y) (h .y)) (go (p .z) (s .z) (h .z))
+mean-on p s h = vec≡ (go (p .x) (s .x) (h .x)) (go (p .y) (s .y) (h .y)) (go (p .z) (s .z) (h .z))
   where
     go : (p s h : ℤ) → p +ℤ h -ℤ (s +ℤ h) ≡ p -ℤ (s +ℤ pos 0)
     go p s h = by-ring (p ∷ s ∷ h ∷ []) (search quote depth 30) tt
 
 pub mean-off : (p s h : Vec3) → minus (minus p h) (plus s nowhere) ≡ minus p (plus s h)
 unfolding plus minus
-mean-off p s h = by-axes (go (p .x) (s .x) (h .x)) (go (p .y) (s .y) (h .y)) (go (p .z) (s .z) (h .z))
+mean-off p s h = vec≡ (go (p .x) (s .x) (h .x)) (go (p .y) (s .y) (h .y)) (go (p .z) (s .z) (h .z))
   where
     go : (p s h : ℤ) → p -ℤ h -ℤ (s +ℤ pos 0) ≡ p -ℤ (s +ℤ h)
     go p s h = by-ring (p ∷ s ∷ h ∷ []) (search quote depth 30) tt
 
 pub solid-on : (p s h : Vec3) → minus (plus p s) (plus s h) ≡ minus p (plus nowhere h)
 unfolding plus minus
-solid-on p s h = by-axes (go (p .x) (s .x) (h .x)) (go (p .y) (s .y) (h .y)) (go (p .z) (s .z) (h .z))
+solid-on p s h = vec≡ (go (p .x) (s .x) (h .x)) (go (p .y) (s .y) (h .y)) (go (p .z) (s .z) (h .z))
   where
     go : (p s h : ℤ) → p +ℤ s -ℤ (s +ℤ h) ≡ p -ℤ (pos 0 +ℤ h)
     go p s h = by-ring (p ∷ s ∷ h ∷ []) (search quote depth 30) tt
 
 pub solid-off : (p s h : Vec3) → minus (minus p s) (plus nowhere h) ≡ minus p (plus s h)
 unfolding plus minus
-solid-off p s h = by-axes (go (p .x) (s .x) (h .x)) (go (p .y) (s .y) (h .y)) (go (p .z) (s .z) (h .z))
+solid-off p s h = vec≡ (go (p .x) (s .x) (h .x)) (go (p .y) (s .y) (h .y)) (go (p .z) (s .z) (h .z))
   where
     go : (p s h : ℤ) → p -ℤ s -ℤ (pos 0 +ℤ h) ≡ p -ℤ (s +ℤ h)
     go p s h = by-ring (p ∷ s ∷ h ∷ []) (search quote depth 30) tt
@@ -127,7 +114,7 @@ solid-off p s h = by-axes (go (p .x) (s .x) (h .x)) (go (p .y) (s .y) (h .y)) (g
 -- what is taken from both is gone
 pub common : (p q f : Vec3) → minus (minus p f) (minus q f) ≡ minus p q
 unfolding minus
-common p q f = by-axes (go (p .x) (q .x) (f .x)) (go (p .y) (q .y) (f .y)) (go (p .z) (q .z) (f .z))
+common p q f = vec≡ (go (p .x) (q .x) (f .x)) (go (p .y) (q .y) (f .y)) (go (p .z) (q .z) (f .z))
   where
     go : (p q f : ℤ) → p -ℤ f -ℤ (q -ℤ f) ≡ p -ℤ q
     go p q f = by-ring (p ∷ q ∷ f ∷ []) (search quote depth 30) tt
@@ -136,7 +123,7 @@ pub apart-later :
     (d : ℤ) (p q v w : Vec3) → minus (plus p (scaled d v)) (plus q (scaled d w)) ≡ plus (minus p q) (scaled d (minus v w))
 unfolding plus minus scaled
 apart-later d p q v w =
-    by-axes
+    vec≡
     (go (p .x) (q .x) (v .x) (w .x))
     (go (p .y) (q .y) (v .y) (w .y))
     (go (p .z) (q .z) (v .z) (w .z))

@@ -7,6 +7,7 @@ use native.Mathlib.Nat.{mul-pos}
 use lib.IntN.{pos, negℤ}
 use Rattle.algebra.specs.Fraction.{Fraction, Positive, Within, divisor, divisor-pos, whole, ratio, _+ᶠ_, _-ᶠ_, _*ᶠ_, _·ᶠ_, _/ᶠ_, _÷ᶠ_}
 use Rattle.mark.specs.declared.Vec3.{Vec3}
+pub use Rattle.mark.specs.Mark.{metre}
 
 -- ---- vectors of fractions
 
@@ -36,11 +37,7 @@ dot v w = v .x *ᶠ w .x +ᶠ v .y *ᶠ w .y +ᶠ v .z *ᶠ w .z
 abbrev pub direction : Vec3 → Positive → Vector
 direction v D = vector (whole (v .x) ÷ᶠ D) (whole (v .y) ÷ᶠ D) (whole (v .z) ÷ᶠ D)
 
--- grains in a metre
-abbrev pub metre : ℕ
-metre = 1461000000
-
--- metres as grains
+-- metres as grains, `metre` of them each
 abbrev pub grains : Vector → Vector
 grains v = vector (pos metre ·ᶠ v .x) (pos metre ·ᶠ v .y) (pos metre ·ᶠ v .z)
 

@@ -12,7 +12,7 @@ use Rattle.mark.specs.Bodies.{moon}
 use Rattle.mark.specs.Tide.{partOf}
 use Rattle.card.specs.Field.{roundedBy}
 use Rattle.card.specs.Calls.{move, moved, step}
-use Rattle.card.proofs.Cases.{at}
+use Rattle.card.specs.Sample.{at}
 
 -- the mark of case 2, metres
 abbrev pub equator : Vec3

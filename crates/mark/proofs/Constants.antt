@@ -1,15 +1,13 @@
 -- K0, the paper's number for each body: near, in grains, of (GM ratio) x Re⁴/R0³, all in metres, with Re = 6,378,136.6 m.
 --
--- A metre is 1,461,000,000 grains. Each fraction is written as its whole parts, so that it can be held against the paper:
+-- Each fraction is written as its whole parts, so that it can be held against the paper:
 -- Re⁴ is 63781366⁴ over 10⁴.
 use mathlib.Core.Path.{_≡_, refl}
-use Prim.Native.Nat.{ℕ, _*_, _^_}
+use Prim.Native.Nat.{_*_, _^_}
 use lib.IntN.{pos}
 use Rattle.number.specs.Near.{nearest, near}
+use Rattle.mark.specs.Mark.{metre}
 use Rattle.mark.specs.Bodies.{moon, sun}
-
-abbrev metre : ℕ
-metre = 1461000000
 
 -- ratio 0.0123000371, R0 = 384,400,000 m
 pub moon-k0 : near (pos (123000371 * 63781366 ^ 4 * metre)) (10 ^ 10 * 10 ^ 4 * 384400000 ^ 3) ≡ pos (moon .k0)

@@ -1,13 +1,14 @@
 -- A vector and its whole length: each component is at most the length. A length in a range, and the same of the sum of squares: 0 where it is
 -- not in the range, else the length or the sum.
 use mathlib.Core.Path.{_≡_, refl, sym}
-use mathlib.Core.Bool.{Bool, true, false, not, cond, _&&_, false≢true}
+use mathlib.Core.Bool.{Bool, true, false, cond, _&&_}
 use Prim.Native.Nat.{ℕ, _+_, _*_, _≤_, _<_}
 use native.Mathlib.Nat.{le-trans, mul-le-mul}
 use native.Mathlib.Omega.{arith}
 use borrow.Author.Tests.{leb-true, le-leb, lt-leb}
 use lib.Dec.{leb, lit<, lit≤}
 use lib.IntN.{ℤ, natAbs}
+use Rattle.algebra.proofs.BoolLaws.{and-left, and-right}
 use Rattle.number.specs.Root.{root}
 use Rattle.number.proofs.RootLaws.{root-is, root-same, root-least, root-below}
 use Rattle.mark.specs.declared.Vec3.{Vec3}
@@ -33,14 +34,6 @@ within-length v =
     record { x = root-least n x (omega arith); y = root-least n y (omega arith); z = root-least n z (omega arith) }
 
 -- ---- a length in a range
-
-and-left : (a b : Bool) → a && b ≡ true → a ≡ true
-and-left true b e = refl
-and-left false b e = e
-
-and-right : (a b : Bool) → a && b ≡ true → b ≡ true
-and-right true b e = e
-and-right false b e = absurd (false≢true e)
 
 pub at-least : (low high n : ℕ) → between low high n ≡ true → low ≤ n
 at-least low high n e = leb-true low n (and-left (leb low n) (leb n high) e)

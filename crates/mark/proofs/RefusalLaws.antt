@@ -12,6 +12,7 @@ use native.Mathlib.Omega.{arith}
 use borrow.Author.Tests.{ltb-true}
 use lib.Dec.{ltb}
 use lib.ListN.{length, getD}
+use Rattle.algebra.proofs.BoolLaws.{both}
 use Rattle.mark.specs.Refusal.{Table, choose, first}
 
 -- the number and the condition at place k; past the end no condition holds
@@ -45,10 +46,6 @@ choose-yes false n r e = absurd (false≢true e)
 choose-no : (b : Bool) (n r : ℕ) → b ≡ false → choose b n r ≡ r
 choose-no true n r e = absurd (true≢false e)
 choose-no false n r e = refl
-
-both : (a b : Bool) → a && b ≡ true → (a ≡ true) × (b ≡ true)
-both true b e = (refl, e)
-both false b e = absurd (false≢true e)
 
 now : (m n : ℕ) (t : Table) → m ≡ n → Met ((m, true) ∷ t) 0 n
 now m n t e = record { inside = omega arith; number = e; holds = refl; before = λ i h. absurd (not-suc-le-zero h) }

@@ -1,7 +1,7 @@
 -- The tide series row by row: the number of a row, the scan of the rows, and the numbers that are written.
 use mathlib.Core.Path.{_≡_, refl, sym, ap, ap₂, _∙_}
 use mathlib.Core.Logic.{_⊎_, inl, inr}
-use mathlib.Core.Bool.{Bool, true, false, cond, _&&_, true≢false}
+use mathlib.Core.Bool.{Bool, true, false, cond, _&&_}
 use mathlib.Core.List.{List, [], _∷_, _++_, append-assoc, append-nil}
 use Prim.Native.Nat.{ℕ, zero, suc, _+_, _*_, _/_, _≤_, _<_}
 use native.Mathlib.Nat.{suc-add}
@@ -12,6 +12,7 @@ use lib.ListN.{length, getD, take, set}
 use lib.Seq.{take-all}
 use lib.IntN.{ℤ}
 use lib.Ieee.{Float, nan}
+use Rattle.algebra.proofs.BoolLaws.{and-first, and-second}
 use Rattle.number.specs.Whole.{wholeOf}
 use Rattle.mark.specs.declared.Vec3.{Vec3}
 use Rattle.mark.specs.declared.BodyVector.{BodyVector}
@@ -26,14 +27,6 @@ use Rattle.mark.specs.Series.{bodyAt, moonAt, sunAt, rowsFit, rowNumber,
 use Rattle.mark.proofs.BodyLaws.{both-numbers}
 
 -- ---- the number of a row
-
-left : (a b : Bool) → a ≡ false → a && b ≡ false
-left true b e = absurd (true≢false e)
-left false b e = refl
-
-right : (a b : Bool) → b ≡ false → a && b ≡ false
-right true b e = e
-right false b e = refl
 
 module _ (b : List Float) (i : ℕ) where
   -- as the steps find it
@@ -50,20 +43,20 @@ module _ (b : List Float) (i : ℕ) where
   refused-ten e = rw e
 
   one-of-three : (v : BodyVector) (x y z : Bool) → finite v ≡ x && y && z → (x ≡ false) ⊎ ((y ≡ false) ⊎ (z ≡ false)) → finite v ≡ false
-  one-of-three v x y z p (inl e) = p ∙ left (x && y) z (left x y e)
-  one-of-three v x y z p (inr (inl e)) = p ∙ left (x && y) z (right x y e)
-  one-of-three v x y z p (inr (inr e)) = p ∙ right (x && y) z e
+  one-of-three v x y z p (inl e) = p ∙ and-first (x && y) z (and-first x y e)
+  one-of-three v x y z p (inr (inl e)) = p ∙ and-first (x && y) z (and-second x y e)
+  one-of-three v x y z p (inr (inr e)) = p ∙ and-second (x && y) z e
 
   moon-bad : (double (6 * i) ≡ false) ⊎ ((double (6 * i + 1) ≡ false) ⊎ (double (6 * i + 2) ≡ false)) → rowNumber b i ≡ 10
   unfolding bodyAt finite
   moon-bad e =
-      refused-ten (left (finite (moonAt b i)) (finite (sunAt b i))
+      refused-ten (and-first (finite (moonAt b i)) (finite (sunAt b i))
       (one-of-three (moonAt b i) (double (6 * i)) (double (6 * i + 1)) (double (6 * i + 2)) refl e))
 
   sun-bad : (double (6 * i + 3) ≡ false) ⊎ ((double (6 * i + 3 + 1) ≡ false) ⊎ (double (6 * i + 3 + 2) ≡ false)) → rowNumber b i ≡ 10
   unfolding bodyAt finite
   sun-bad e =
-      refused-ten (right (finite (moonAt b i)) (finite (sunAt b i))
+      refused-ten (and-second (finite (moonAt b i)) (finite (sunAt b i))
       (one-of-three (sunAt b i) (double (6 * i + 3)) (double (6 * i + 3 + 1)) (double (6 * i + 3 + 2)) refl e))
 
   -- one of the six is no number: refusal 10
@@ -148,11 +141,11 @@ fits d n h k = rw (eq-eqb d (6 * (n / 3)) h, eq-eqb n (3 * (n / 3)) k)
 
 pub no-six : (d n : ℕ) → (d ≡ 6 * (n / 3) → ⊥) → rowsFit d n ≡ false
 unfolding rowsFit
-no-six d n h = left (eqb d (6 * (n / 3))) (eqb n (3 * (n / 3))) (ne-eqb d (6 * (n / 3)) h)
+no-six d n h = and-first (eqb d (6 * (n / 3))) (eqb n (3 * (n / 3))) (ne-eqb d (6 * (n / 3)) h)
 
 pub no-three : (d n : ℕ) → (n ≡ 3 * (n / 3) → ⊥) → rowsFit d n ≡ false
 unfolding rowsFit
-no-three d n h = right (eqb d (6 * (n / 3))) (eqb n (3 * (n / 3))) (ne-eqb n (3 * (n / 3)) h)
+no-three d n h = and-second (eqb d (6 * (n / 3))) (eqb n (3 * (n / 3))) (ne-eqb n (3 * (n / 3)) h)
 
 -- a refusal writes no number
 pub kept : (m : Vec3) (b : List Float) (out : List ℤ) (r : Rows) → r ≡ seriesAnswer m b (length out) → (r .number ≡ 0 → ⊥) → out ≡ seriesNumbers m b out

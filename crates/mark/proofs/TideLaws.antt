@@ -2,25 +2,26 @@
 --
 -- K is the strength, R0 and K0 of the paper with it. A part is at most 1.12 K and 10 grains more in each component: 0.6078 K upward, and
 -- 3 x 0.0847 K sideways times |d - c u|, which is at most 2.
-use mathlib.Core.Path.{_≡_, refl, ap, subst, sym}
-use mathlib.Core.Bool.{Bool, true, false, _&&_}
+use mathlib.Core.Path.{_≡_, refl, subst, sym}
 use Prim.Native.Nat.{ℕ, _+_, _*_, _≤_, _<_}
 use native.Mathlib.Nat.{le-refl, mul-le-mul}
 use native.Mathlib.Omega.{arith}
-use lib.Dec.{T, leb, leb→le, lit<, lit≤}
+use lib.Dec.{T, lit<, lit≤}
 use lib.IntN.{ℤ, pos, natAbs, _+ℤ_, _-ℤ_, _*ℤ_}
+use Rattle.algebra.proofs.BoolLaws.{holds}
 use Rattle.algebra.proofs.Difference.{ℤ⊖}
 use Rattle.algebra.proofs.IntLaws.{abs-+, abs--, abs-*, abs-square}
 use Rattle.number.specs.Near.{near}
 use Rattle.number.proofs.NearLaws.{near-bound, near-natural}
 use Rattle.mark.specs.declared.Vec3.{Vec3}
 use Rattle.mark.specs.declared.BodyVector.{BodyVector}
-use Rattle.mark.specs.Mark.{E, times, lengthOf}
+use Rattle.mark.specs.Mark.{E, times, between, lengthOf}
 use Rattle.mark.specs.Permanent.{units, legendre}
 use Rattle.mark.specs.Bodies.{Kind, moon, sun, wholes, inReach}
 use Rattle.mark.specs.Tide.{nearness, strength, cosine, height, upward, sideways, component, partOf, plus, tideAt, tide}
 use Rattle.mark.specs.Ranges.{Within, Direction}
 use Rattle.mark.proofs.StepLaws.{times-bound}
+use Rattle.mark.proofs.LengthLaws.{at-least}
 use Rattle.mark.proofs.DirectionLaws.{near-size, direction-within, mark-direction, body-sum, cosine-bound}
 
 -- ---- the strength
@@ -179,13 +180,10 @@ plus-small n m v w h k =
       z = omega (arith, abs-+ (v .z) (w .z), h .z, k .z);
     }
 
-reached : (k : Kind) (v : BodyVector) → T (inReach k v) → k .low ≤ lengthOf (wholes v)
+-- a body in reach is no nearer than its least distance
+pub reached : (k : Kind) (v : BodyVector) → T (inReach k v) → k .low ≤ lengthOf (wholes v)
 unfolding inReach
-reached k v t = low (leb (k .low) (lengthOf (wholes v))) (leb (lengthOf (wholes v)) (k .high)) t (leb→le (k .low) (lengthOf (wholes v)))
-  where
-    low : (a b : Bool) → T (a && b) → (T a → k .low ≤ lengthOf (wholes v)) → k .low ≤ lengthOf (wholes v)
-    low true b t f = f tt
-    low false b t f = absurd t
+reached k v t = at-least (k .low) (k .high) (lengthOf (wholes v)) (holds (between (k .low) (k .high) (lengthOf (wholes v))) t)
 
 -- at the mark's unit vector
 pub tide-at-small : (u : Vec3) (v w : BodyVector) → Direction u → T (inReach moon v) → T (inReach sun w) → Within 1080000000 (tideAt u v w)

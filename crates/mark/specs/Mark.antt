@@ -9,6 +9,10 @@ use Rattle.number.specs.Root.{root}
 use Rattle.mark.specs.declared.Vec3.{Vec3}
 use Rattle.mark.specs.Refusal.{first}
 
+-- grains in a metre
+abbrev pub metre : ℕ
+metre = 1461000000
+
 -- E, the unit of every fraction of one
 abbrev pub E : ℕ
 E = 2 ^ 30

@@ -1,7 +1,7 @@
 -- The solid tide of degree two, in grains: the paper's steps for each body, one definition each, and the Moon's plus the Sun's.
-use Prim.Native.Nat.{ℕ, _*_}
+use Prim.Native.Nat.{ℕ}
 use mathlib.Core.List.{[], _∷_}
-use mathlib.Core.Bool.{Bool, not, cond, _&&_}
+use mathlib.Core.Bool.{not, cond, _&&_}
 use lib.Dec.{eqb}
 use lib.IntN.{ℤ, pos, _+ℤ_, _-ℤ_, _*ℤ_}
 use Rattle.number.specs.Near.{near}
@@ -13,7 +13,7 @@ use Rattle.mark.specs.Mark.{E, times, vec, nowhere, lengthOf, marked}
 unfoldable pub use Rattle.mark.specs.Mark.{plus}
 use Rattle.mark.specs.Permanent.{units, legendre}
 use Rattle.mark.specs.Bodies.{Kind, moon, sun, wholes, finite, inReach, paired, moonOf, sunOf}
-use Rattle.mark.specs.Refusal.{first}
+use Rattle.mark.specs.Refusal.{Table, first}
 
 -- q = near(R0 E/R)
 unfoldable pub nearness : ℕ → ℕ → ℤ
@@ -69,22 +69,23 @@ abbrev pub refusedWith : ℕ → Shift
 refusedWith n = record { number = n; shift = nowhere }
 
 -- refusal 10 of both bodies before 11 of either
+abbrev pub bodyChecks : BodyVector → BodyVector → Table
+bodyChecks v w = (10, not (finite v && finite w)) ∷ (11, not (inReach moon v && inReach sun w)) ∷ []
+
 unfoldable pub bodiesNumber : BodyVector → BodyVector → ℕ
-bodiesNumber v w = first ((10, not (finite v && finite w)) ∷ (11, not (inReach moon v && inReach sun w)) ∷ [])
+bodiesNumber v w = first (bodyChecks v w)
 
 -- an answer for two bodies at the mark's unit vector u: 10, 11, or the tide
 unfoldable pub pairAnswer : Vec3 → BodyVector → BodyVector → Shift
 pairAnswer u v w = record { number = bodiesNumber v w; shift = cond (eqb (bodiesNumber v w) 0) (tideAt u v w) nowhere }
 
--- 6 mark, 17 not one Moon and one Sun, 10, 11
+-- 17 not one Moon and one Sun, 10, 11
+abbrev pub pairChecks : Body → Body → Table
+pairChecks a b = (17, not (paired a b)) ∷ bodyChecks (moonOf a b) (sunOf a b)
+
+-- 6 mark, then these
 unfoldable pub tideNumber : Vec3 → Body → Body → ℕ
-tideNumber m a b =
-    first
-    ((6, not (marked m))
-    ∷ (17, not (paired a b))
-    ∷ (10, not (finite (moonOf a b) && finite (sunOf a b)))
-    ∷ (11, not (inReach moon (moonOf a b) && inReach sun (sunOf a b)))
-    ∷ [])
+tideNumber m a b = first ((6, not (marked m)) ∷ pairChecks a b)
 
 unfoldable pub tideAnswer : Vec3 → Body → Body → Shift
 tideAnswer m a b = record { number = tideNumber m a b; shift = cond (eqb (tideNumber m a b) 0) (tide m (moonOf a b) (sunOf a b)) nowhere }

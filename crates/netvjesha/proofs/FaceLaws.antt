@@ -18,40 +18,14 @@ use Rattle.card.specs.declared.Answer.{Answer}
 use Rattle.card.specs.Checks.{checks, cardNumber}
 use Rattle.card.specs.Codec.{cardLength, encode, decode, readNumber, readCard, zeroCard, writeNumber, written}
 use Rattle.card.specs.Field.{fieldOf, fieldNumber, openedOf, expandedOf, expandCard, exportNumber, exported}
-use Rattle.card.specs.Calls.{Call, solidOn, next, own, callNumber, settle, step}
+use Rattle.card.specs.Calls.{Call, solidOn, next, own, callNumber}
+use Rattle.card.specs.Bytes.{before, kept, bytesNumber, bytesOut}
 use Rattle.card.proofs.CheckLaws.{positive-checks}
-use Rattle.card.proofs.CallLaws.{stays-valid}
 use Rattle.card.proofs.CodecLaws.{write-accepts}
 use Rattle.card.proofs.FieldLaws.{number-expanded}
 use Rattle.card.proofs.AnswerLaws.{put-out}
-use Rattle.netvjesha.specs.Face.{before, roomy, kept, faceNumber, faceOut, bodyOf, solidCall, settledNumber, settledOut, exportedNumber, exportedOut, expandedNumber, expandedOut}
-
--- ---- one refusal before another
-
-pub one : _≡_ {A = ℕ} 1 0 → ⊥
-one e = omega arith
-
-pub too-short : (l room after : ℕ) → (room ≡ l → ⊥) → 1 ≡ roomy l room after
-unfolding roomy
-too-short l room after h = rw (ne-eqb room l h)
-
-pub long-enough : (l room after : ℕ) → room ≡ l → after ≡ roomy l room after
-unfolding roomy
-long-enough l room after h = rw (eq-eqb room l h)
-
-pub refused-before : (n after : ℕ) → (n ≡ 0 → ⊥) → n ≡ before n after
-unfolding before
-refused-before n after h = rw (ne-eqb n 0 h)
-
-pub passed-before : (n after : ℕ) → n ≡ 0 → after ≡ before n after
-unfolding before
-passed-before n after h = rw (eq-eqb n 0 h)
-
-pub keeps : {A : Type 0} (n m : ℕ) (new old : List A) → n ≡ m → (n ≡ 0 → ⊥) → old ≡ kept m new old
-keeps n m new old e h = rw (← e, ne-eqb n 0 h)
-
-pub takes : {A : Type 0} (n m : ℕ) (new old : List A) → n ≡ m → n ≡ 0 → new ≡ kept m new old
-takes n m new old e h = rw (← e, eq-eqb n 0 h)
+use Rattle.card.proofs.BytesLaws.{one, too-short, long-enough, refused-before, passed-before, keeps, takes}
+use Rattle.netvjesha.specs.Face.{bodyOf, solidCall, settledNumber, settledOut, exportedNumber, exportedOut, expandedNumber, expandedOut}
 
 -- ---- what a read gives
 
@@ -99,47 +73,11 @@ settles (suc n) new old out l h = (
     some : (m : ℕ) → suc m ≡ 0 → ⊥
     some m e = omega arith
 
-step-settles : (c : Card) (k : Call) (out : List ℕ) → length out ≡ 88
-    → (settledNumber (step c k) (length out) ≡ callNumber c k) × (settledOut (step c k) out ≡ kept (callNumber c k) (encode (next c k)) out)
-unfolding step settle
-step-settles c k out l = settles (callNumber c k) (next c k) c out l (stays-valid c k)
+-- ---- a call on a card's bytes, by another name
 
--- ---- a call on a card's bytes
-
-module _ (s out : List ℕ) (k : Call) where
-  pub face-short : (length out ≡ 88 → ⊥) → (1 ≡ faceNumber (length out) s k) × (out ≡ faceOut out s k)
-  unfolding faceNumber faceOut
-  face-short h =
-      let e = too-short 88 (length out) (before (readNumber s) (callNumber (decode s) k)) h in
-      (e, keeps 1 (faceNumber (length out) s k) (encode (next (decode s) k)) out e one)
-
-  pub face-unread : (a : Answer) → length out ≡ 88 → a ≡ readCard s → (a .number ≡ 0 → ⊥) → (a .number ≡ faceNumber (length out) s k) × (out ≡ faceOut out s k)
-  unfolding faceNumber faceOut
-  face-unread a l r h =
-      let n = number-read s a r in
-      let e = n ∙ refused-before (readNumber s) (callNumber (decode s) k) (λ z. h (n ∙ z)) ∙ long-enough 88 (length out) (before (readNumber s) (callNumber (decode s) k)) l in
-      (e, keeps (a .number) (faceNumber (length out) s k) (encode (next (decode s) k)) out e h)
-
-  face-is : length out ≡ 88 → readNumber s ≡ 0 → callNumber (decode s) k ≡ faceNumber (length out) s k
-  unfolding faceNumber
-  face-is l h = passed-before (readNumber s) (callNumber (decode s) k) h ∙ long-enough 88 (length out) (before (readNumber s) (callNumber (decode s) k)) l
-
-  face-settled : (n : ℕ) (e : List ℕ) → length out ≡ 88 → readNumber s ≡ 0
-      → n ≡ settledNumber (step (decode s) k) (length out) → e ≡ settledOut (step (decode s) k) out
-      → (n ≡ faceNumber (length out) s k) × (e ≡ faceOut out s k)
-  unfolding faceOut
-  face-settled n e l h p q =
-      let w = step-settles (decode s) k out l in
-      (p ∙ w .0 ∙ face-is l h, q ∙ w .1 ∙ ap (λ (m : ℕ). kept m (encode (next (decode s) k)) out) (face-is l h))
-
-  pub face-called : (a b : Answer) (n : ℕ) (e : List ℕ) → length out ≡ 88 → a ≡ readCard s → a .number ≡ 0 → b ≡ step (a .card) k
-      → n ≡ settledNumber b (length out) → e ≡ settledOut b out
-      → (n ≡ faceNumber (length out) s k) × (e ≡ faceOut out s k)
-  face-called a b n e l r h f p q =
-      let g : b ≡ step (decode s) k = f ∙ ap (λ (c : Card). step c k) (card-read s a r h) in
-      face-settled n e l (sym (number-read s a r) ∙ h)
-      (p ∙ ap (λ (x : Answer). settledNumber x (length out)) g)
-      (q ∙ ap (λ (x : Answer). settledOut x out) g)
+pub same-call : (s out : List ℕ) (k q : Call) (n : ℕ) (w : List ℕ) → k ≡ q
+    → (n ≡ bytesNumber (length out) s k) × (w ≡ bytesOut out s k) → (n ≡ bytesNumber (length out) s q) × (w ≡ bytesOut out s q)
+same-call s out k q n w e h = subst (λ (x : Call). (n ≡ bytesNumber (length out) s x) × (w ≡ bytesOut out s x)) e h
 
 -- ---- labels
 

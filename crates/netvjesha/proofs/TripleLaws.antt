@@ -28,8 +28,10 @@ use Rattle.card.specs.declared.Metres.{Metres}
 use Rattle.card.specs.Codec.{decode, readNumber, readCard}
 use Rattle.card.specs.MetresOut.{metresOf}
 use Rattle.card.proofs.TableLaws.{mark-accepted}
-use Rattle.netvjesha.specs.Face.{roomy, kept, threeMetres, metresNumber, metresOut, packed, permanentNumber, permanentOut}
-use Rattle.netvjesha.proofs.FaceLaws.{one, too-short, long-enough, keeps, takes, number-read, card-read}
+use Rattle.card.specs.Bytes.{roomy, kept}
+use Rattle.netvjesha.specs.Face.{threeMetres, metresNumber, metresOut, packed, permanentNumber, permanentOut}
+use Rattle.card.proofs.BytesLaws.{one, too-short, long-enough, keeps, takes}
+use Rattle.netvjesha.proofs.FaceLaws.{number-read, card-read}
 
 -- three numbers that fit 64 bits come back as they went in
 pub back : {x y z : ℤ} → SFits w64 x → SFits w64 y → SFits w64 z → vec (toZ w64 (ofZ w64 x)) (toZ w64 (ofZ w64 y)) (toZ w64 (ofZ w64 z)) ≡ vec x y z

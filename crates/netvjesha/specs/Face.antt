@@ -1,4 +1,5 @@
--- The C face: the output's length first (1), then the record's own checks, then the call's. A refused call leaves the output as it was.
+-- The C face beside the calls on a card's bytes: labels, the field edition, metres, the permanent shift, the series. The output's length comes
+-- first (1), then the record's own checks. A refused call leaves the output as it was.
 use Prim.Native.Nat.{ℕ, _+_, _*_, _%_, _^_}
 use mathlib.Core.List.{List, [], _∷_}
 use mathlib.Core.Bool.{Bool, not, cond, _&&_}
@@ -19,28 +20,11 @@ use Rattle.card.specs.declared.Answer.{Answer}
 use Rattle.card.specs.declared.Metres.{Metres}
 use Rattle.card.specs.Codec.{cardLength, encode, decode, readNumber, writeNumber, written}
 use Rattle.card.specs.Field.{fieldLength, fieldOf, exportNumber, fieldNumber, openedOf, expandedOf}
-use Rattle.card.specs.Calls.{Call, solidOn, next, callNumber}
+use Rattle.card.specs.Calls.{Call, solidOn}
+use Rattle.card.specs.Bytes.{before, roomy, kept}
 use Rattle.card.specs.MetresOut.{metresOf}
 
--- a refusal n comes before what follows it
-unfoldable pub before : ℕ → ℕ → ℕ
-before n after = cond (eqb n 0) after n
-
--- 1 where an output of `room` elements is not of length l, then what follows
-unfoldable pub roomy : ℕ → ℕ → ℕ → ℕ
-roomy l room after = cond (eqb room l) after 1
-
--- an output under a number: what is written, or what it held. For bytes, doubles and numbers.
-abbrev pub kept : {A : Type 0} → ℕ → List A → List A → List A
-kept n new old = cond (eqb n 0) new old
-
--- ---- a call on a card's bytes
-
-unfoldable pub faceNumber : ℕ → List ℕ → Call → ℕ
-faceNumber room s k = roomy cardLength room (before (readNumber s) (callNumber (decode s) k))
-
-unfoldable pub faceOut : List ℕ → List ℕ → Call → List ℕ
-faceOut out s k = kept (faceNumber (length out) s k) (encode (next (decode s) k)) out
+-- ---- labels
 
 abbrev pub bodyVector : Float → Float → Float → BodyVector
 bodyVector a b c = record { x = a; y = b; z = c }
@@ -53,7 +37,8 @@ bodyOf label v = cond (eqb label 1) (Sun v) (Moon v)
 unfoldable pub solidCall : ℕ → BodyVector → ℕ → BodyVector → Call
 solidCall k v l w = cond (leb k 1) (cond (leb l 1) (solidOn (bodyOf k v) (bodyOf l w)) (solidOn (Moon v) (Moon v))) (solidOn (Moon v) (Moon v))
 
--- an answer's card is written where its number is 0
+-- ---- an answer's card is written where its number is 0
+
 unfoldable pub settledNumber : Answer → ℕ → ℕ
 settledNumber a room = before (a .number) (writeNumber (a .card) room)
 

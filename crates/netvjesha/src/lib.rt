@@ -6,10 +6,11 @@ ghost use Rattle.mark.specs.Mark as M;
 ghost use Rattle.mark.specs.Series as S;
 ghost use Rattle.card.specs.Codec as C;
 ghost use Rattle.card.specs.Calls as L;
+ghost use Rattle.card.specs.Bytes as B;
 ghost use Rattle.catalogue.specs.Lookup as K;
 ghost use Rattle.netvjesha.specs.Face as F;
 use card::Answer;
-use card::Card;
+use card::Call;
 use mark::Body;
 use mark::BodyVector;
 use mark::Vec3;
@@ -37,16 +38,16 @@ fn body(label: u8, v: BodyVector) -> Body
 }
 
 // Solid tide on by labels. Two Moons stand for a label that is neither, since they are refused alike.
-fn solid(c: Card, k: u8, v: BodyVector, l: u8, w: BodyVector) -> Answer
-    ensures { λ r. ⌜ r ≡ L.step c (F.solidCall k v l w) ⌝ }
+fn solid(k: u8, v: BodyVector, l: u8, w: BodyVector) -> Call
+    ensures { λ r. ⌜ B.callOf r ≡ F.solidCall k v l w ⌝ }
 {
     if 1 < k {
-        return c.solid_on(Body::Moon(v), Body::Moon(v));
+        return Call::SolidOn(Body::Moon(v), Body::Moon(v));
     }
     if 1 < l {
-        return c.solid_on(Body::Moon(v), Body::Moon(v));
+        return Call::SolidOn(Body::Moon(v), Body::Moon(v));
     }
-    c.solid_on(body(k, v), body(l, w))
+    Call::SolidOn(body(k, v), body(l, w))
 }
 
 // The number of a card's bytes: 1 to 9, or 0.
@@ -61,86 +62,46 @@ pub extern "C" fn nv_check(card: &[u8]) -> u32
 // Moves a card by d quarter-days.
 #[no_mangle]
 pub extern "C" fn nv_move(card: &[u8], d: i64, out: &mut [u8]) -> u32
-    ensures { λ r. ⌜ r ≡ F.faceNumber (length (now (out .entry))) (now (card .entry)) (L.move d) ⌝ }
-    ensures { λ r. ⌜ now (out .exit) ≡ F.faceOut (now (out .entry)) (now (card .entry)) (L.move d) ⌝ }
+    ensures { λ r. ⌜ r ≡ B.bytesNumber (length (now (out .entry))) (now (card .entry)) (L.move d) ⌝ }
+    ensures { λ r. ⌜ now (out .exit) ≡ B.bytesOut (now (out .entry)) (now (card .entry)) (L.move d) ⌝ }
 {
-    if out.len() != 88 {
-        return 1;
-    }
-    let a = card::read(card);
-    if a.number != 0 {
-        return a.number;
-    }
-    let c = a.card;
-    settle(c.move_by(d), out)
+    card::call_bytes(card, Call::Move(d), out)
 }
 
 // Shifts a card to a frame: 0 ITRF2008, 1 ITRF2005, 2 ITRF2000.
 #[no_mangle]
 pub extern "C" fn nv_frame(card: &[u8], frame: u8, out: &mut [u8]) -> u32
-    ensures { λ r. ⌜ r ≡ F.faceNumber (length (now (out .entry))) (now (card .entry)) (L.frame frame) ⌝ }
-    ensures { λ r. ⌜ now (out .exit) ≡ F.faceOut (now (out .entry)) (now (card .entry)) (L.frame frame) ⌝ }
+    ensures { λ r. ⌜ r ≡ B.bytesNumber (length (now (out .entry))) (now (card .entry)) (L.frame frame) ⌝ }
+    ensures { λ r. ⌜ now (out .exit) ≡ B.bytesOut (now (out .entry)) (now (card .entry)) (L.frame frame) ⌝ }
 {
-    if out.len() != 88 {
-        return 1;
-    }
-    let a = card::read(card);
-    if a.number != 0 {
-        return a.number;
-    }
-    let c = a.card;
-    settle(c.to_frame(frame), out)
+    card::call_bytes(card, Call::Frame(frame), out)
 }
 
 // Adds the permanent shift: tide-free to mean-tide.
 #[no_mangle]
 pub extern "C" fn nv_mean_on(card: &[u8], out: &mut [u8]) -> u32
-    ensures { λ r. ⌜ r ≡ F.faceNumber (length (now (out .entry))) (now (card .entry)) L.meanOn ⌝ }
-    ensures { λ r. ⌜ now (out .exit) ≡ F.faceOut (now (out .entry)) (now (card .entry)) L.meanOn ⌝ }
+    ensures { λ r. ⌜ r ≡ B.bytesNumber (length (now (out .entry))) (now (card .entry)) L.meanOn ⌝ }
+    ensures { λ r. ⌜ now (out .exit) ≡ B.bytesOut (now (out .entry)) (now (card .entry)) L.meanOn ⌝ }
 {
-    if out.len() != 88 {
-        return 1;
-    }
-    let a = card::read(card);
-    if a.number != 0 {
-        return a.number;
-    }
-    let c = a.card;
-    settle(c.mean_on(), out)
+    card::call_bytes(card, Call::MeanOn, out)
 }
 
 // Takes the permanent shift away: mean-tide to tide-free.
 #[no_mangle]
 pub extern "C" fn nv_mean_off(card: &[u8], out: &mut [u8]) -> u32
-    ensures { λ r. ⌜ r ≡ F.faceNumber (length (now (out .entry))) (now (card .entry)) L.meanOff ⌝ }
-    ensures { λ r. ⌜ now (out .exit) ≡ F.faceOut (now (out .entry)) (now (card .entry)) L.meanOff ⌝ }
+    ensures { λ r. ⌜ r ≡ B.bytesNumber (length (now (out .entry))) (now (card .entry)) L.meanOff ⌝ }
+    ensures { λ r. ⌜ now (out .exit) ≡ B.bytesOut (now (out .entry)) (now (card .entry)) L.meanOff ⌝ }
 {
-    if out.len() != 88 {
-        return 1;
-    }
-    let a = card::read(card);
-    if a.number != 0 {
-        return a.number;
-    }
-    let c = a.card;
-    settle(c.mean_off(), out)
+    card::call_bytes(card, Call::MeanOff, out)
 }
 
 // Takes the stored solid tide away.
 #[no_mangle]
 pub extern "C" fn nv_solid_off(card: &[u8], out: &mut [u8]) -> u32
-    ensures { λ r. ⌜ r ≡ F.faceNumber (length (now (out .entry))) (now (card .entry)) L.solidOff ⌝ }
-    ensures { λ r. ⌜ now (out .exit) ≡ F.faceOut (now (out .entry)) (now (card .entry)) L.solidOff ⌝ }
+    ensures { λ r. ⌜ r ≡ B.bytesNumber (length (now (out .entry))) (now (card .entry)) L.solidOff ⌝ }
+    ensures { λ r. ⌜ now (out .exit) ≡ B.bytesOut (now (out .entry)) (now (card .entry)) L.solidOff ⌝ }
 {
-    if out.len() != 88 {
-        return 1;
-    }
-    let a = card::read(card);
-    if a.number != 0 {
-        return a.number;
-    }
-    let c = a.card;
-    settle(c.solid_off(), out)
+    card::call_bytes(card, Call::SolidOff, out)
 }
 
 // Adds the solid tide of a Moon (label 0, metres) and a Sun (label 1, kilometres), in either order, and stores it.
@@ -157,17 +118,9 @@ pub extern "C" fn nv_solid_on(
     bz: f64,
     out: &mut [u8],
 ) -> u32
-    ensures { λ r. ⌜ r ≡ F.faceNumber (length (now (out .entry))) (now (card .entry)) (F.solidCall la (F.bodyVector ax ay az) lb (F.bodyVector bx by bz)) ⌝ }
-    ensures { λ r. ⌜ now (out .exit) ≡ F.faceOut (now (out .entry)) (now (card .entry)) (F.solidCall la (F.bodyVector ax ay az) lb (F.bodyVector bx by bz)) ⌝ }
+    ensures { λ r. ⌜ r ≡ B.bytesNumber (length (now (out .entry))) (now (card .entry)) (F.solidCall la (F.bodyVector ax ay az) lb (F.bodyVector bx by bz)) ⌝ }
+    ensures { λ r. ⌜ now (out .exit) ≡ B.bytesOut (now (out .entry)) (now (card .entry)) (F.solidCall la (F.bodyVector ax ay az) lb (F.bodyVector bx by bz)) ⌝ }
 {
-    if out.len() != 88 {
-        return 1;
-    }
-    let a = card::read(card);
-    if a.number != 0 {
-        return a.number;
-    }
-    let c = a.card;
     let v = BodyVector {
         x: ax,
         y: ay,
@@ -178,7 +131,7 @@ pub extern "C" fn nv_solid_on(
         y: by,
         z: bz,
     };
-    settle(solid(c, la, v, lb, w), out)
+    card::call_bytes(card, solid(la, v, lb, w), out)
 }
 
 // Writes the field edition of a card, 48 bytes.

@@ -14,6 +14,13 @@ use lib.Seq.{getD-at, getD-drop, take-suc}
 use Rattle.octets.specs.Octets.{unsignedAt, digitsOf, residue, bytesOf}
 use Rattle.octets.proofs.ReadLaws.{Bytes, unsigned-same}
 
+-- 256^n is 2^(8 n)
+pub eights : (n : ℕ) → 2 ^ (8 * n) ≡ 256 ^ n
+eights zero = refl
+eights (suc n) =
+    let e : 8 * suc n ≡ 8 + 8 * n = omega arith in
+    ap (λ (k : ℕ). 2 ^ k) e ∙ pow-add 2 8 (8 * n) ∙ ap (λ (k : ℕ). 256 * k) (eights n) ∙ sym (pow-succ' 256 n)
+
 pub length-digits : (n u : ℕ) → length (digitsOf n u) ≡ n
 unfolding digitsOf
 length-digits zero u = refl

@@ -28,6 +28,15 @@ unfolding unsignedAt
 unsigned-lt s at zero b = lit< tt
 unsigned-lt s at (suc n) b = rw (pow-succ' 256 n) (omega (arith, unsigned-lt s at n b, b (at + n)))
 
+-- a run in two parts
+pub unsigned-parts : (s : List ℕ) (at m k : ℕ) → unsignedAt s at (m + k) ≡ unsignedAt s at m * 256 ^ k + unsignedAt s (at + m) k
+unfolding unsignedAt
+unsigned-parts s at m zero = ap (unsignedAt s at) (add-zero m) ∙ omega arith
+unsigned-parts s at m (suc k) =
+    let e : m + suc k ≡ suc (m + k) = omega arith in
+    let p : at + (m + k) ≡ at + m + k = omega arith in
+    ap (unsignedAt s at) e ∙ rw (pow-succ' 256 k, p) (omega (arith, unsigned-parts s at m k))
+
 -- two runs that agree byte by byte read the same
 pub unsigned-same : (s t : List ℕ) (at place n : ℕ) → ((i : ℕ) → i < n → getD s (at + i) 0 ≡ getD t (place + i) 0)
     → unsignedAt s at n ≡ unsignedAt t place n

@@ -1,22 +1,18 @@
 // Numbers in byte slices, big-endian, signed ones in two's complement. Each function takes any slice, any place and any
 // width: what lies past the end reads as 0 and is not written, and a width above 8 bytes counts as 8.
 ghost use mathlib.Core.Path.{_≡_};
-ghost use Prim.Native.Nat.{_+_, _-_, _^_, min};
-ghost use lib.ListN.{getD, set};
+ghost use Prim.Native.Nat.{_+_, _-_, _^_, _≤_, min};
+ghost use lib.ListN.{getD, length, set};
 ghost use Rattle.octets.specs.Octets as O;
 
-// The n bytes from `at` on, as a number from 0.
+// The n bytes from `at` on, as a number from 0. Eight of them are read as two fours, each of which the compiler loads at once.
 pub fn unsigned_at(s: &[u8], at: usize, n: usize) -> u64
     ensures { λ r. ⌜ r ≡ O.unsignedAt (now (s .entry)) at (min n 8) ⌝ }
 {
-    let end = width(n);
-    let mut value = 0u64;
-    let mut i = 0usize;
-    while i < end {
-        value = value * 256 + byte_at(s, at, i) as u64;
-        i += 1;
+    if n < 8 {
+        return run_at(s, at, 0, n);
     }
-    value
+    run_at(s, at, 0, 4) * 4294967296 + run_at(s, at, 4, 4)
 }
 
 // The n bytes from `at` on, in two's complement.
@@ -62,15 +58,33 @@ pub fn put_bytes(out: &mut [u8], at: usize, from: &[u8])
     }
 }
 
-// Writes the last n digits of u to base 256 from `at` on, the last one first.
+// Writes the last n digits of u to base 256 from `at` on. The end is tested once, so that the compiler stores the digits at once.
 fn put_digits(out: &mut [u8], at: usize, n: usize, u: u64)
     ensures { λ _. ⌜ now (out .exit) ≡ O.splice (now (out .entry)) at (O.digitsOf (min n 8) u) ⌝ }
 {
+    let k = width(n);
+    if out.len() <= at {
+        return;
+    }
+    let room = out.len() - at;
+    if room < k {
+        // those past the end are the last ones
+        put_run(out, at, room, u >> (8 * (k - room)));
+        return;
+    }
+    put_run(out, at, k, u);
+}
+
+// The same where they lie inside, the last one first.
+fn put_run(out: &mut [u8], at: usize, n: usize, u: u64)
+    requires { ⌜ at + n ≤ length (now out) ⌝ }
+    ensures { λ _. ⌜ now (out .exit) ≡ O.splice (now (out .entry)) at (O.digitsOf n u) ⌝ }
+{
     let mut rest = u;
-    let mut left = width(n);
+    let mut left = n;
     while 0 < left {
         left -= 1;
-        put_byte(out, at, left, (rest % 256) as u8);
+        out[at + left] = (rest % 256) as u8;
         rest = rest / 256;
     }
 }
@@ -86,6 +100,21 @@ fn put_byte(out: &mut [u8], at: usize, i: usize, b: u8)
         return;
     }
     out[at + i] = b;
+}
+
+// The n bytes from `skip` places after `at` on.
+fn run_at(s: &[u8], at: usize, skip: usize, n: usize) -> u64
+    requires { ⌜ skip ≤ 8 ⌝ }
+    requires { ⌜ n ≤ 8 ⌝ }
+    ensures { λ r. ⌜ r ≡ O.unsignedAt (now (s .entry)) (at + skip) n ⌝ }
+{
+    let mut value = 0u64;
+    let mut i = 0usize;
+    while i < n {
+        value = value * 256 + byte_at(s, at, skip + i) as u64;
+        i += 1;
+    }
+    value
 }
 
 // The byte `i` places after `at`.
@@ -122,10 +151,9 @@ fn greatest(n: usize) -> u64
 fn pattern(z: i64) -> u64
     ensures { λ r. ⌜ r ≡ O.residue 8 z ⌝ }
 {
-    let m = number::magnitude(z);
     if z < 0 {
         // z + 2^64, by numbers that fit
-        return 18446744073709551615 - (m - 1);
+        return 18446744073709551615 - ((-(z + 1)) as u64);
     }
-    m
+    z as u64
 }

@@ -1,15 +1,16 @@
 -- `catalogue::scan` meets its contract: at record `at` what the pass over the rest gives is the whole answer. Assumes nothing.
-use mathlib.Core.Path.{_≡_, refl, sym, ap, _∙_}
-use mathlib.Core.Bool.{true, false}
+use mathlib.Core.Path.{_≡_, refl, sym, _∙_}
+use mathlib.Core.Bool.{true}
 use mathlib.Core.List.{List}
-use Prim.Native.Nat.{ℕ, suc, _+_, _-_, _/_, _%_, _≤_, _<_}
+use Prim.Native.Nat.{ℕ, _+_, _-_, _/_, _%_, _≤_}
 use native.Mathlib.Omega.{arith}
 use borrow.Author.Needs.{needs}
 use borrow.Author.Tests.{not-true, not-false}
 use lib.ListN.{length}
 use Rattle.card.specs.Checks.{siteShape}
-use Rattle.catalogue.specs.Lookup.{hasSite, firstFrom, firstPlace}
-use Rattle.catalogue.proofs.LookupLaws.{first-none, first-here, first-later, first-whole, site-nine, found-0, found-2, found-14, found-15}
+use Rattle.card.proofs.ValidLaws.{site-nine}
+use Rattle.catalogue.specs.Lookup.{firstFrom, firstPlace}
+use Rattle.catalogue.proofs.LookupLaws.{first-none, first-here, first-later, first-whole, found-0, found-2, found-14, found-15}
 use Rattle.catalogue.proofs.scan.Statement.{statement}
 use Rattle.catalogue.proofs.scan.Tie as tie
 use Rattle.catalogue.proofs.scan.Reads as reads

@@ -1,19 +1,14 @@
 -- `octets::greatest` meets its contract: 256^n is 2^(8 n). Assumes nothing.
-use mathlib.Core.Path.{_≡_, refl, sym, ap, _∙_}
-use Prim.Native.Nat.{ℕ, zero, suc, _+_, _-_, _*_, _%_, _^_, _<_, min}
-use native.Mathlib.Nat.{pow-succ', one-mul, one-le-pow}
+use mathlib.Core.Path.{_≡_, ap, _∙_}
+use Prim.Native.Nat.{ℕ, _-_, _*_, _%_, _^_, _<_, min}
+use native.Mathlib.Nat.{one-mul, one-le-pow}
 use native.Mathlib.Omega.{arith}
 use borrow.Author.Needs.{needs}
 use lib.Dec.{lit<}
-use lib.Pow.{pow-add, shl-exact}
+use lib.Pow.{shl-exact}
+use Rattle.octets.proofs.DigitLaws.{eights}
 use Rattle.octets.proofs.greatest.Statement.{statement}
 use Rattle.octets.proofs.greatest.Tie as tie
-
-eights : (n : ℕ) → 2 ^ (8 * n) ≡ 256 ^ n
-eights zero = refl
-eights (suc n) =
-    let e : 8 * suc n ≡ 8 + 8 * n = omega arith in
-    ap (λ (k : ℕ). 2 ^ k) e ∙ pow-add 2 8 (8 * n) ∙ ap (λ (k : ℕ). 256 * k) (eights n) ∙ sym (pow-succ' 256 n)
 
 shifted : (n : ℕ) → n < 8 → (1 * 2 ^ (8 * n)) % 2 ^ 64 ≡ 256 ^ n
 shifted n h = shl-exact {a = 1} 1 (8 * n) 64 (lit< tt) (omega arith) ∙ one-mul (2 ^ (8 * n)) ∙ eights n

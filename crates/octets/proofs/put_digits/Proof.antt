@@ -1,91 +1,111 @@
--- `octets::put_digits` meets its contract: putting the digits that are left gives what all of them give. Assumes nothing.
+-- `octets::put_digits` meets its contract: digits past the end are the last ones, and they are not written. Assumes nothing.
 use mathlib.Core.Path.{_≡_, refl, sym, ap, _∙_}
 use mathlib.Core.List.{List}
-use Prim.Native.Nat.{ℕ, zero, suc, _+_, _-_, _/_, _%_, _≤_, _<_, min}
+use Prim.Native.Nat.{ℕ, zero, suc, _+_, _-_, _*_, _/_, _%_, _^_, _≤_, min}
+use native.Mathlib.Nat.{add-zero, div-one, div-div-eq-div-mul, pow-succ'}
 use native.Mathlib.Omega.{arith}
 use borrow.Author.Needs.{needs}
 use lib.ListN.{length, set}
+use lib.Seq.{set-out}
 use Rattle.octets.specs.Octets.{splice, digitsOf}
-use Rattle.octets.proofs.DigitLaws.{length-digits}
+use Rattle.octets.proofs.DigitLaws.{eights, length-digits}
 use Rattle.octets.proofs.SpliceLaws.{splice-last}
 use Rattle.octets.proofs.put_digits.Statement.{statement}
 use Rattle.octets.proofs.put_digits.Tie as tie
 
--- the last digit, and the others
-more : (out out′ all : List ℕ) (at left rest : ℕ) → 0 < left → out′ ≡ set out (at + (left - 1)) (rest % 256)
-    → splice out at (digitsOf left rest) ≡ all → splice out′ at (digitsOf (left - 1) (rest / 256)) ≡ all
+-- m places are left, and j digits lie past the end
+clipped : (out : List ℕ) (at m j u : ℕ) → length out ≤ at + m → splice out at (digitsOf (m + j) u) ≡ splice out at (digitsOf m (u / 256 ^ j))
 unfolding digitsOf
-more out out′ all at zero rest h f g = absurd (omega arith)
-more out out′ all at (suc k) rest h f g =
-    let e : suc k - 1 ≡ k = omega arith in
-    rw (f, e)
-    (ap (λ (j : ℕ). splice (set out (at + j) (rest % 256)) at (digitsOf k (rest / 256))) (sym (length-digits k (rest / 256)))
-    ∙ sym (splice-last out at (digitsOf k (rest / 256)) (rest % 256))
-    ∙ g)
+clipped out at m zero u h =
+    ap (λ (k : ℕ). splice out at (digitsOf k u)) (add-zero m) ∙ ap (λ (v : ℕ). splice out at (digitsOf m v)) (sym (div-one u))
+clipped out at m (suc j) u h =
+    let e : m + suc j ≡ suc (m + j) = omega arith in
+    let d : List ℕ = digitsOf (m + j) (u / 256) in
+    let b : ℕ = u % 256 in
+    ap (λ (k : ℕ). splice out at (digitsOf k u)) e
+    ∙ splice-last out at d b
+    ∙ ap (λ (k : ℕ). splice (set out (at + k) b) at d) (length-digits (m + j) (u / 256))
+    ∙ ap (λ (s : List ℕ). splice s at d) (set-out out (at + (m + j)) b (omega arith))
+    ∙ clipped out at m j (u / 256) h
+    ∙ ap (λ (v : ℕ). splice out at (digitsOf m v)) (div-div-eq-div-mul u 256 (256 ^ j) ∙ ap (λ (k : ℕ). u / k) (sym (pow-succ' 256 j)))
 
--- none is left
-done : (out all : List ℕ) (at left rest : ℕ) → left ≤ 0 → splice out at (digitsOf left rest) ≡ all → out ≡ all
+-- no place is left
+nowhere : (out : List ℕ) (at k u : ℕ) → length out ≤ at → out ≡ splice out at (digitsOf k u)
 unfolding splice digitsOf
-done out all at zero rest h g = g
-done out all at (suc k) rest h g = absurd (omega arith)
+nowhere out at k u h =
+    let e : k ≡ 0 + k = omega arith in
+    sym (ap (λ (j : ℕ). splice out at (digitsOf j u)) e ∙ clipped out at 0 k u (omega arith))
 
-abbrev Inv-loop : tie.InvT-loop
-Inv-loop out₀ at n u rest₀ left₀ out rest left =
-    (length out ≡ length out₀) × (splice out at (digitsOf left rest) ≡ splice out₀ at (digitsOf (min n 8) u))
+-- some are
+some : (out last : List ℕ) (at room k n u : ℕ) → k ≡ min n 8 → room ≡ length out - at → at ≤ length out → room ≤ k → last ≡ splice out at (digitsOf room (u / 2 ^ (8 * (k - room))))
+    → last ≡ splice out at (digitsOf (min n 8) u)
+some out last at room k n u w r i l e =
+    let s : room + (k - room) ≡ k = omega arith in
+    e ∙ ap (λ (x : ℕ). splice out at (digitsOf room (u / x))) (eights (k - room))
+    ∙ sym (clipped out at room (k - room) u (omega arith))
+    ∙ ap (λ (x : ℕ). splice out at (digitsOf x u)) (s ∙ w)
 
-abbrev μ-loop : tie.MeasureT-loop
-μ-loop out₀ at n u rest₀ left₀ out rest left = left
-
-width-requires : tie.Need-width-requires Inv-loop μ-loop
+width-requires : tie.Need-width-requires
 width-requires c κs = search needs
 
-loop-holds : tie.Need-loop-holds Inv-loop μ-loop
-loop-holds c =
-    let a = c .before .before .args in
-    (refl, ap (λ (k : ℕ). splice (a .out .now) (a .at) (digitsOf k (a .u))) (c .width .ensures))
-
-sub-left : tie.Need-sub-left Inv-loop μ-loop
-sub-left c = search needs
-
-cast-put-byte : tie.Need-cast-put-byte Inv-loop μ-loop
-cast-put-byte c = search needs
-
-put-byte-requires : tie.Need-put-byte-requires Inv-loop μ-loop
-put-byte-requires c κs = search needs
-
-loop-less : tie.Need-loop-less Inv-loop μ-loop
-loop-less c = search needs
-
-loop-again : tie.Need-loop-again Inv-loop μ-loop
-loop-again c =
-    let l = c .before .before .before .before .before in
-    let a = l .before .before .before .args in (
-      c .before .before .put-byte .kept .0 ∙ l .loop .inv .0,
-      more (l .loop .out) (c .before .before .put-byte .last .0) (splice (a .out .now) (a .at) (digitsOf (min (a .n) 8) (a .u)))
-          (a .at) (l .loop .left) (l .loop .rest) (omega arith) (c .before .before .put-byte .ensures) (l .loop .inv .1),
-    )
-
-same-length : tie.Need-same-length Inv-loop μ-loop
-same-length c = c .before .loop .inv .0
-
-returns : tie.Need-returns Inv-loop μ-loop
+returns : tie.Need-returns
 returns c =
-    let a = c .before .before .before .before .args in
-    done (c .before .loop .out) (splice (a .out .now) (a .at) (digitsOf (min (a .n) 8) (a .u)))
-    (a .at) (c .before .loop .left) (c .before .loop .rest) (omega arith) (c .before .loop .inv .1)
+    let a = c .before .before .before .args in
+    nowhere (a .out .now) (a .at) (min (a .n) 8) (a .u) (c .if1 .taken)
+
+sub-room : tie.Need-sub-room
+sub-room c = search needs
+
+sub-put-run : tie.Need-sub-put-run
+sub-put-run c = search needs
+
+mul-put-run : tie.Need-mul-put-run
+mul-put-run c = search needs
+
+shr-put-run : tie.Need-shr-put-run
+shr-put-run c = search needs
+
+put-run-requires : tie.Need-put-run-requires
+put-run-requires c κs = search needs
+
+same-length : tie.Need-same-length
+same-length c = search needs
+
+returns-2 : tie.Need-returns-2
+returns-2 c =
+    let p = c .before .before in
+    let t = p .before .before in
+    let w = t .before .before in
+    let a = w .before .before .args in
+    some (a .out .now) (p .put-run .last .0) (a .at) (length (a .out .now) - a .at) (w .width .result) (a .n) (a .u)
+    (w .width .ensures) refl (omega (arith, t .before .if1 .left)) (omega (arith, t .if2 .taken)) (p .put-run .ensures)
+
+put-run-requires-2 : tie.Need-put-run-requires-2
+put-run-requires-2 c κs = search needs
+
+same-length-2 : tie.Need-same-length-2
+same-length-2 c = search needs
+
+returns-3 : tie.Need-returns-3
+returns-3 c =
+    let p = c .before .before in
+    let w = p .before .before .before .before in
+    let a = w .before .before .args in
+    p .put-run2 .ensures ∙ ap (λ (k : ℕ). splice (a .out .now) (a .at) (digitsOf k (a .u))) (w .width .ensures)
 
 pub put-digits-spec : {M : Type 1} → statement M
 put-digits-spec =
     tie.close
     (tie.spec
-    Inv-loop
-    μ-loop
     width-requires
-    loop-holds
-    sub-left
-    cast-put-byte
-    put-byte-requires
-    loop-less
-    loop-again
+    returns
+    sub-room
+    sub-put-run
+    mul-put-run
+    shr-put-run
+    put-run-requires
     same-length
-    returns)
+    returns-2
+    put-run-requires-2
+    same-length-2
+    returns-3)

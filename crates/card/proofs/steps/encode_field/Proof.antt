@@ -5,16 +5,17 @@ use Prim.Native.Nat.{ℕ}
 use borrow.Author.Needs.{needs}
 use lib.ListN.{length, length-map}
 use lib.IntN.{ℤ}
+use Rattle.algebra.proofs.BoolLaws.{passes}
 use Rattle.algebra.proofs.Machine.{answered}
 use Rattle.octets.specs.Octets.{bytesOf, splice}
 use Rattle.mark.specs.declared.Vec3.{Vec3}
 use Rattle.mark.proofs.MarkLaws.{accepted-within}
 use Rattle.card.specs.declared.Card.{Card}
-use Rattle.card.specs.Checks.{sized, fromMark}
+use Rattle.card.specs.Checks.{fromMark}
 use Rattle.card.specs.Layout.{spliced, headed}
 use Rattle.card.specs.Field.{roundedBy, offsetOf, speedOf, fieldOf}
 use Rattle.card.proofs.CheckLaws.{is-sized, Passed, passed, valid-number}
-use Rattle.card.proofs.ValidLaws.{so, position-size}
+use Rattle.card.proofs.ValidLaws.{position-size}
 use Rattle.card.proofs.PackLaws.{taken, field-packed, put-field}
 use Rattle.card.proofs.steps.encode_field.Statement.{statement}
 use Rattle.card.proofs.steps.encode_field.Tie as tie
@@ -42,8 +43,8 @@ from-mark-requires : tie.Need-from-mark-requires
 from-mark-requires c κs =
     let card = c .before .args .c in
     let p : Passed card = passed card (valid-number card (c .before .pre .1)) in (
-      so (sized 6400000 (card .mark)) (is-sized 6400000 (card .mark) (accepted-within (card .mark) (p .mark))),
-      so (sized 10000000000000000 (card .position)) (is-sized 10000000000000000 (card .position) (position-size (card .mark) (card .position) (p .mark) (p .position))),
+      passes (is-sized 6400000 (card .mark) (accepted-within (card .mark) (p .mark))),
+      passes (is-sized 10000000000000000 (card .position) (position-size (card .mark) (card .position) (p .mark) (p .position))),
     )
 
 rounded-requires : tie.Need-rounded-requires

@@ -2,12 +2,10 @@
 use mathlib.Core.Path.{_≡_, refl, sym, ap, _∙_}
 use mathlib.Core.Bool.{Bool, true, false, not, _&&_}
 use mathlib.Core.List.{[], _∷_}
-use Prim.Native.Nat.{ℕ, _≤_, _<_}
 use borrow.Author.Needs.{needs}
-use borrow.Author.Tests.{not-true, not-false, le-leb, lt-leb}
-use lib.Dec.{leb}
-use lib.IntN.{ℤ}
+use borrow.Author.Tests.{not-true, not-false}
 use mir.Facts.{toZ-ofZ}
+use Rattle.algebra.proofs.BoolLaws.{and-true, and-first, and-second}
 use Rattle.mark.specs.Mark.{marked}
 use Rattle.mark.specs.Frame.{knownFrame}
 use Rattle.mark.specs.Refusal.{Table, first}
@@ -15,7 +13,7 @@ use Rattle.mark.proofs.MarkLaws.{accepted-within}
 use Rattle.card.specs.declared.Card.{Card}
 use Rattle.card.specs.Checks.{siteShape, tideFits, epochFits, velocityFits, positionFits, vectorFits, sized, checks}
 use Rattle.card.proofs.CheckLaws.{within-sized}
-use Rattle.card.proofs.TableLaws.{passed, stopped, and-true, and-first, and-second, frame-known, frame-unknown, mark-accepted, mark-refused}
+use Rattle.card.proofs.TableLaws.{passed, stopped, frame-known, frame-unknown, mark-accepted, mark-refused}
 use Rattle.card.proofs.steps.number.Statement.{statement}
 use Rattle.card.proofs.steps.number.Tie as tie
 
@@ -117,7 +115,7 @@ on4 : (c : tie.Else4) → first (from5 (c .before .before .before .before .befor
 on4 c = passed 4 (c .before .before .before .before .before .before .before .before .before .args .zeros && tideFits (c .before .before .before .before .before .before .before .before .before .args .c .tide) (c .before .before .before .before .before .before .before .before .before .args .c .solid)) (from5 (c .before .before .before .before .before .before .before .before .before .args .zeros) (c .before .before .before .before .before .before .before .before .before .args .c)) (and-true (c .before .before .before .before .before .before .before .before .before .args .zeros) (tideFits (c .before .before .before .before .before .before .before .before .before .args .c .tide) (c .before .before .before .before .before .before .before .before .before .args .c .solid)) (ok3 (c .before .before)) (ok4 c)) ∙ on3 (c .before .before)
 
 returns-4 : tie.Need-returns-4
-returns-4 c = stopped 4 (c .before .before .before .before .before .before .before .before .before .args .zeros && tideFits (c .before .before .before .before .before .before .before .before .before .args .c .tide) (c .before .before .before .before .before .before .before .before .before .args .c .solid)) (from5 (c .before .before .before .before .before .before .before .before .before .args .zeros) (c .before .before .before .before .before .before .before .before .before .args .c)) (and-second (c .before .before .before .before .before .before .before .before .before .args .zeros) (tideFits (c .before .before .before .before .before .before .before .before .before .args .c .tide) (c .before .before .before .before .before .before .before .before .before .args .c .solid)) (ok3 (c .before .before)) (bad4 c)) ∙ on3 (c .before .before)
+returns-4 c = stopped 4 (c .before .before .before .before .before .before .before .before .before .args .zeros && tideFits (c .before .before .before .before .before .before .before .before .before .args .c .tide) (c .before .before .before .before .before .before .before .before .before .args .c .solid)) (from5 (c .before .before .before .before .before .before .before .before .before .args .zeros) (c .before .before .before .before .before .before .before .before .before .args .c)) (and-second (c .before .before .before .before .before .before .before .before .before .args .zeros) (tideFits (c .before .before .before .before .before .before .before .before .before .args .c .tide) (c .before .before .before .before .before .before .before .before .before .args .c .solid)) (bad4 c)) ∙ on3 (c .before .before)
 
 epoch-fits-requires : tie.Need-epoch-fits-requires
 epoch-fits-requires c κs = search needs

@@ -2,20 +2,18 @@
 use mathlib.Core.Path.{_≡_, refl, sym, ap, _∙_}
 use mathlib.Core.Bool.{Bool, true, false, not, _&&_}
 use mathlib.Core.List.{[], _∷_}
-use Prim.Native.Nat.{ℕ, _≤_, _<_}
 use borrow.Author.Needs.{needs}
 use borrow.Author.Tests.{not-true, not-false, le-leb, lt-leb}
 use lib.Dec.{leb}
-use lib.IntN.{ℤ}
 use mir.Facts.{toZ-ofZ}
+use Rattle.algebra.proofs.BoolLaws.{and-true, and-first, and-second}
 use Rattle.mark.specs.Mark.{marked}
 use Rattle.mark.specs.Frame.{knownFrame}
 use Rattle.mark.specs.Refusal.{Table, first}
-use Rattle.mark.proofs.MarkLaws.{accepted-within}
 use Rattle.card.specs.declared.steps.Opened.{Opened}
 use Rattle.card.specs.Checks.{siteShape, epochFits, sized}
 use Rattle.card.specs.Field.{openedChecks}
-use Rattle.card.proofs.TableLaws.{passed, stopped, and-true, and-first, and-second, frame-known, frame-unknown, mark-accepted, mark-refused}
+use Rattle.card.proofs.TableLaws.{passed, stopped, frame-known, frame-unknown, mark-accepted, mark-refused}
 use Rattle.card.proofs.steps.opened_number.Statement.{statement}
 use Rattle.card.proofs.steps.opened_number.Tie as tie
 
@@ -103,7 +101,7 @@ on4 : (c : tie.Else4) → first (from5 (c .before .before .before .before .befor
 on4 c = passed 4 (c .before .before .before .before .before .before .before .before .before .args .zeros && leb (c .before .before .before .before .before .before .before .before .before .args .f .tide) 1) (from5 (c .before .before .before .before .before .before .before .before .before .args .zeros) (c .before .before .before .before .before .before .before .before .before .args .f)) (and-true (c .before .before .before .before .before .before .before .before .before .args .zeros) (leb (c .before .before .before .before .before .before .before .before .before .args .f .tide) 1) (ok3 (c .before .before)) (ok4 c)) ∙ on3 (c .before .before)
 
 returns-4 : tie.Need-returns-4
-returns-4 c = stopped 4 (c .before .before .before .before .before .before .before .before .before .args .zeros && leb (c .before .before .before .before .before .before .before .before .before .args .f .tide) 1) (from5 (c .before .before .before .before .before .before .before .before .before .args .zeros) (c .before .before .before .before .before .before .before .before .before .args .f)) (and-second (c .before .before .before .before .before .before .before .before .before .args .zeros) (leb (c .before .before .before .before .before .before .before .before .before .args .f .tide) 1) (ok3 (c .before .before)) (bad4 c)) ∙ on3 (c .before .before)
+returns-4 c = stopped 4 (c .before .before .before .before .before .before .before .before .before .args .zeros && leb (c .before .before .before .before .before .before .before .before .before .args .f .tide) 1) (from5 (c .before .before .before .before .before .before .before .before .before .args .zeros) (c .before .before .before .before .before .before .before .before .before .args .f)) (and-second (c .before .before .before .before .before .before .before .before .before .args .zeros) (leb (c .before .before .before .before .before .before .before .before .before .args .f .tide) 1) (bad4 c)) ∙ on3 (c .before .before)
 
 epoch-fits-requires : tie.Need-epoch-fits-requires
 epoch-fits-requires c κs = search needs

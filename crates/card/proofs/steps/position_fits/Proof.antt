@@ -1,15 +1,14 @@
 -- `card::steps::position_fits` meets its contract: a position past 10^16 grains is near no accepted mark. Assumes nothing.
-use mathlib.Core.Path.{_≡_, refl, sym, ap, _∙_, subst⁻¹}
+use mathlib.Core.Path.{_≡_, refl, sym, ap, _∙_}
 use mathlib.Core.Bool.{Bool, true, false}
-use Prim.Native.Nat.{ℕ, _≤_}
 use native.Mathlib.Nat.{le-trans}
 use borrow.Author.Needs.{needs}
 use borrow.Author.Tests.{not-true, not-false}
 use lib.Dec.{T, lit≤}
+use Rattle.algebra.proofs.BoolLaws.{passes}
 use Rattle.mark.specs.declared.Vec3.{Vec3}
-use Rattle.mark.specs.Ranges.{Within}
 use Rattle.card.specs.Checks.{sized, fromMark, positionFits}
-use Rattle.card.proofs.CheckLaws.{sized-within, is-sized, position-small, passes}
+use Rattle.card.proofs.CheckLaws.{sized-within, is-sized, position-small}
 use Rattle.card.proofs.steps.position_fits.Statement.{statement}
 use Rattle.card.proofs.steps.position_fits.Tie as tie
 

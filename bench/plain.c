@@ -1,0 +1,366 @@
+/* The same work in plain C: cards, calls, tides, lookup, the listing line. Units as in netvjesha.h. */
+#include "plain.h"
+
+#include <math.h>
+#include <string.h>
+
+enum { CARD = 88, EPOCHS = 146100, SPEEDS = 500000 };
+
+static const int64_t METRE = 1461000000; /* grains */
+static const int64_t E = 1 << 30;
+
+/* ---- numbers ---- */
+
+/* The nearest whole number to a/b, halves away from zero. */
+static inline int64_t near(int64_t a, int64_t b) { return a < 0 ? -((-a + b / 2) / b) : (a + b / 2) / b; }
+
+static inline int64_t times(int64_t a, int64_t b) { return near(a * b, E); }
+
+static inline int64_t root(int64_t n)
+{
+    int64_t r = (int64_t)sqrt((double)n);
+    if (r * r > n) r--;
+    else if ((r + 1) * (r + 1) <= n) r++;
+    return r;
+}
+
+static inline int inside(int64_t v, int64_t most) { return -most <= v && v <= most; }
+
+static inline int all_inside(const int64_t v[3], int64_t most)
+{
+    return inside(v[0], most) && inside(v[1], most) && inside(v[2], most);
+}
+
+/* The whole length of v, or 0 where it does not lie from low to high. */
+static inline int64_t length_within(const int64_t v[3], int64_t low, int64_t high)
+{
+    if (!all_inside(v, high)) return 0;
+    int64_t r = root(v[0] * v[0] + v[1] * v[1] + v[2] * v[2]);
+    return low <= r && r <= high ? r : 0;
+}
+
+static int64_t mark_length(const int64_t m[3]) { return length_within(m, 6300000, 6400000); }
+
+static inline void units(const int64_t v[3], int64_t r, int64_t u[3])
+{
+    for (int i = 0; i < 3; i++) u[i] = near(v[i] * E, r);
+}
+
+/* ---- bytes ---- */
+
+static inline uint32_t be32(const uint8_t *s)
+{
+    uint32_t v;
+    memcpy(&v, s, 4);
+    return __builtin_bswap32(v);
+}
+
+static inline uint64_t be64(const uint8_t *s)
+{
+    uint64_t v;
+    memcpy(&v, s, 8);
+    return __builtin_bswap64(v);
+}
+
+static inline void put32(uint8_t *s, uint32_t v)
+{
+    v = __builtin_bswap32(v);
+    memcpy(s, &v, 4);
+}
+
+static inline void put64(uint8_t *s, uint64_t v)
+{
+    v = __builtin_bswap64(v);
+    memcpy(s, &v, 8);
+}
+
+static int site_shape(const uint8_t *s)
+{
+    for (int i = 0; i < 9; i++)
+        if (i == 5 ? s[i] != 'M' && s[i] != 'S' : s[i] < '0' || s[i] > '9') return 0;
+    return 1;
+}
+
+/* ---- cards ---- */
+
+static int position_fits(const struct card *c)
+{
+    for (int i = 0; i < 3; i++) {
+        int64_t centre = METRE * c->mark[i];
+        if (c->position[i] < centre - 1000 * METRE || c->position[i] > centre + 1000 * METRE) return 0;
+    }
+    return 1;
+}
+
+static int velocity_fits(const struct card *c)
+{
+    for (int i = 0; i < 3; i++)
+        if (!inside(c->velocity[i], SPEEDS)) return 0;
+    return 1;
+}
+
+static void mark_of(const struct card *c, int64_t m[3])
+{
+    for (int i = 0; i < 3; i++) m[i] = c->mark[i];
+}
+
+uint32_t plain_read(const uint8_t *s, size_t n, struct card *c)
+{
+    if (n != CARD) return 1;
+    if (!site_shape(s)) return 2;
+    memcpy(c->site, s, 9);
+    c->frame = s[9];
+    c->tide = s[10];
+    c->epoch = (int32_t)be32(s + 12);
+    for (int i = 0; i < 3; i++) {
+        c->mark[i] = (int32_t)be32(s + 16 + 4 * i);
+        c->velocity[i] = (int32_t)be32(s + 28 + 4 * i);
+        c->position[i] = (int64_t)be64(s + 40 + 8 * i);
+        c->solid[i] = (int64_t)be64(s + 64 + 8 * i);
+    }
+    if (c->frame > 2) return 3;
+    if (c->tide > 2 || s[11] || (c->tide != 2 && (c->solid[0] | c->solid[1] | c->solid[2]))) return 4;
+    if (!inside(c->epoch, EPOCHS)) return 5;
+    int64_t m[3];
+    mark_of(c, m);
+    if (!mark_length(m)) return 6;
+    if (!velocity_fits(c)) return 7;
+    if (!position_fits(c)) return 8;
+    if (!all_inside(c->solid, METRE)) return 9;
+    return 0;
+}
+
+static void write_card(const struct card *c, uint8_t *s)
+{
+    memcpy(s, c->site, 9);
+    s[9] = c->frame;
+    s[10] = c->tide;
+    s[11] = 0;
+    put32(s + 12, (uint32_t)c->epoch);
+    for (int i = 0; i < 3; i++) {
+        put32(s + 16 + 4 * i, (uint32_t)c->mark[i]);
+        put32(s + 28 + 4 * i, (uint32_t)c->velocity[i]);
+        put64(s + 40 + 8 * i, (uint64_t)c->position[i]);
+        put64(s + 64 + 8 * i, (uint64_t)c->solid[i]);
+    }
+}
+
+/* The output's length, then the card's own checks. */
+static uint32_t begin(const uint8_t *card, size_t n, size_t m, struct card *c) { return m != CARD ? 1 : plain_read(card, n, c); }
+
+/* The last check of every call, and the write. */
+static uint32_t end(const struct card *c, uint8_t *out)
+{
+    if (!position_fits(c)) return 8;
+    write_card(c, out);
+    return 0;
+}
+
+uint32_t plain_move(const uint8_t *card, size_t n, int64_t d, uint8_t *out, size_t m)
+{
+    struct card c;
+    uint32_t r = begin(card, n, m, &c);
+    if (r) return r;
+    if (c.tide == 2) return 13;
+    if (!inside(d, 2 * EPOCHS) || !inside(c.epoch + d, EPOCHS)) return 5;
+    c.epoch += (int32_t)d;
+    for (int i = 0; i < 3; i++) c.position[i] += c.velocity[i] * d;
+    return end(&c, out);
+}
+
+/* ---- frames: 0.1 mm, 0.01 ppb, and the same a year ---- */
+
+static const struct row {
+    int64_t t[3], d, t_rate[3], d_rate;
+} rows[3] = {
+    {{0, 0, 0}, 0, {0, 0, 0}, 0},
+    {{-20, -9, -47}, 94, {3, 0, 0}, 0},
+    {{-19, -17, -105}, 134, {1, 1, -18}, 8},
+};
+
+static int64_t frame_a(int frame, int i, int64_t m) { return 146100 * rows[frame].t[i] + near(1461 * rows[frame].d * m, 100000); }
+
+static int64_t frame_b(int frame, int i, int64_t m) { return 100 * rows[frame].t_rate[i] + near(rows[frame].d_rate * m, 100000); }
+
+uint32_t plain_frame(const uint8_t *card, size_t n, uint8_t frame, uint8_t *out, size_t m)
+{
+    struct card c;
+    uint32_t r = begin(card, n, m, &c);
+    if (r) return r;
+    if (frame > 2) return 3;
+    for (int i = 0; i < 3; i++) {
+        int64_t b = frame_b(frame, i, c.mark[i]) - frame_b(c.frame, i, c.mark[i]);
+        c.velocity[i] += (int32_t)b;
+        c.position[i] += frame_a(frame, i, c.mark[i]) - frame_a(c.frame, i, c.mark[i]) + b * c.epoch;
+    }
+    c.frame = frame;
+    if (!velocity_fits(&c)) return 7;
+    return end(&c, out);
+}
+
+/* ---- tides, grains ---- */
+
+static inline int64_t legendre(int64_t s) { return near(3 * s - E, 2); }
+
+static void permanent(const int64_t m[3], int64_t shift[3])
+{
+    int64_t u[3];
+    units(m, mark_length(m), u);
+    int64_t s = times(u[2], u[2]), p = legendre(s), e = times(146100, p);
+    int64_t a = times(e - 176196600, p), t = -36817200 - e, w = times(t, s);
+    shift[0] = times(a - 2 * w, u[0]);
+    shift[1] = times(a - 2 * w, u[1]);
+    shift[2] = times(a + 2 * t - 2 * w, u[2]);
+}
+
+static uint32_t mean(const uint8_t *card, size_t n, int from, int sign, uint8_t *out, size_t m)
+{
+    struct card c;
+    int64_t mark[3], shift[3];
+    uint32_t r = begin(card, n, m, &c);
+    if (r) return r;
+    if (c.tide != from) return 12;
+    mark_of(&c, mark);
+    permanent(mark, shift);
+    for (int i = 0; i < 3; i++) c.position[i] += sign * shift[i];
+    c.tide = (uint8_t)(1 - from);
+    return end(&c, out);
+}
+
+uint32_t plain_mean_on(const uint8_t *card, size_t n, uint8_t *out, size_t m) { return mean(card, n, 0, 1, out, m); }
+
+uint32_t plain_mean_off(const uint8_t *card, size_t n, uint8_t *out, size_t m) { return mean(card, n, 1, -1, out, m); }
+
+/* A body: its range and reference distance in its own unit, and K0 in grains. */
+struct kind {
+    int64_t low, high, r0, k0;
+};
+
+static const struct kind moon = {350000000, 410000000, 384400000, 523578453};
+static const struct kind sun = {146000000, 153000000, 149597870, 240449078};
+
+static inline int finite3(const double *v) { return isfinite(v[0]) && isfinite(v[1]) && isfinite(v[2]); }
+
+/* The whole vector and distance of a body, 0 where it is out of range. */
+static inline int64_t seen(const struct kind *k, const double *v, int64_t at[3])
+{
+    for (int i = 0; i < 3; i++) {
+        if (fabs(v[i]) > 1e9) return 0;
+        at[i] = llround(v[i]);
+    }
+    return length_within(at, k->low, k->high);
+}
+
+static inline void add_part(const struct kind *k, const int64_t u[3], const int64_t at[3], int64_t r, int64_t shift[3])
+{
+    int64_t q = near(k->r0 * E, r), strength = times(k->k0, times(times(q, q), q));
+    int64_t d[3];
+    units(at, r, d);
+    int64_t c = near(u[0] * d[0] + u[1] * d[1] + u[2] * d[2], E);
+    int64_t rho = times(near(6078 * strength, 10000), legendre(times(c, c)));
+    int64_t t = 3 * times(near(847 * strength, 10000), c);
+    for (int i = 0; i < 3; i++) shift[i] += near(rho * u[i] + t * (d[i] - times(c, u[i])), E);
+}
+
+/* 10, 11, or 0 and the tide. */
+static inline uint32_t pair_tide(const int64_t u[3], const double *v, const double *w, int64_t shift[3])
+{
+    int64_t a[3], b[3];
+    if (!finite3(v) || !finite3(w)) return 10;
+    int64_t ra = seen(&moon, v, a), rb = seen(&sun, w, b);
+    if (!ra || !rb) return 11;
+    shift[0] = shift[1] = shift[2] = 0;
+    add_part(&moon, u, a, ra, shift);
+    add_part(&sun, u, b, rb, shift);
+    return 0;
+}
+
+uint32_t plain_solid_on(const uint8_t *card, size_t n, uint8_t la, double ax, double ay, double az,
+                        uint8_t lb, double bx, double by, double bz, uint8_t *out, size_t m)
+{
+    struct card c;
+    uint32_t r = begin(card, n, m, &c);
+    if (r) return r;
+    if (c.tide != 0) return 12;
+    if (la > 1 || lb > 1 || la == lb) return 17;
+    double a[3] = {ax, ay, az}, b[3] = {bx, by, bz};
+    int64_t mark[3], u[3];
+    mark_of(&c, mark);
+    units(mark, mark_length(mark), u);
+    r = la == 0 ? pair_tide(u, a, b, c.solid) : pair_tide(u, b, a, c.solid);
+    if (r) return r;
+    for (int i = 0; i < 3; i++) c.position[i] += c.solid[i];
+    c.tide = 2;
+    return end(&c, out);
+}
+
+uint32_t plain_solid_off(const uint8_t *card, size_t n, uint8_t *out, size_t m)
+{
+    struct card c;
+    uint32_t r = begin(card, n, m, &c);
+    if (r) return r;
+    if (c.tide != 2) return 12;
+    for (int i = 0; i < 3; i++) {
+        c.position[i] -= c.solid[i];
+        c.solid[i] = 0;
+    }
+    c.tide = 0;
+    return end(&c, out);
+}
+
+/* Number + 256 x (rows, or the bad row). All rows are looked at before the first number is written. */
+uint64_t plain_series(int64_t x, int64_t y, int64_t z, const double *bodies, size_t n, int64_t *out, size_t m)
+{
+    int64_t mark[3] = {x, y, z}, u[3], l = mark_length(mark), at[3];
+    size_t count = m / 3;
+    if (!l) return 6;
+    if (m != 3 * count || n != 6 * count) return 16;
+    for (size_t i = 0; i < count; i++) {
+        const double *row = bodies + 6 * i;
+        if (!finite3(row) || !finite3(row + 3)) return 10 + 256 * (uint64_t)i;
+        if (!seen(&moon, row, at) || !seen(&sun, row + 3, at)) return 11 + 256 * (uint64_t)i;
+    }
+    units(mark, l, u);
+    for (size_t i = 0; i < count; i++) pair_tide(u, bodies + 6 * i, bodies + 6 * i + 3, out + 3 * i);
+    return 256 * (uint64_t)count;
+}
+
+/* ---- catalogues ---- */
+
+size_t plain_find(const uint8_t *catalogue, size_t len, const uint8_t *key, size_t key_len)
+{
+    if (key_len != 9 || !site_shape(key) || len % CARD) return len;
+    for (size_t at = 0; at < len; at += CARD)
+        if (!memcmp(catalogue + at, key, 9)) return at;
+    return len;
+}
+
+static char *put_number(char *to, int64_t v)
+{
+    char digits[20];
+    int n = 0;
+    uint64_t u = v < 0 ? -(uint64_t)v : (uint64_t)v;
+    *to++ = ' ';
+    if (v < 0) *to++ = '-';
+    do digits[n++] = (char)('0' + u % 10);
+    while (u /= 10);
+    while (n) *to++ = digits[--n];
+    return to;
+}
+
+size_t plain_line(const uint8_t *part, size_t n, char *line)
+{
+    struct card c;
+    char *to = line;
+    uint32_t r = plain_read(part, n, &c);
+    if (r) {
+        memcpy(to, "refused", 7);
+        to = put_number(to + 7, r);
+    } else {
+        memcpy(to, c.site, 9);
+        to = put_number(put_number(to + 9, c.frame), c.epoch);
+        for (int i = 0; i < 3; i++) to = put_number(to, c.position[i]);
+    }
+    *to++ = '\n';
+    return (size_t)(to - line);
+}
