@@ -21,6 +21,19 @@ use crate::Card;
 use mark::Body;
 use mark::Vec3;
 
+// Grains in a metre.
+const METRE: i64 = 1461000000;
+
+// The farthest that a position lies from its mark, and the most of a stored tide, a component: grains.
+const FARTHEST: u64 = 1461000000000;
+
+const TIDE_MOST: u64 = 1461000000;
+
+// Micrometres a year, a component; quarter-days from 2000.0.
+const VELOCITY_MOST: u64 = 500000;
+
+const EPOCH_MOST: u64 = 146100;
+
 // What a field record holds: the offset from the mark in 0.1 mm, the speed in 0.1 mm a year.
 pub struct Opened {
     pub site: [u8; 9],
@@ -91,7 +104,7 @@ pub fn tide_fits(byte: u8, v: Vec3) -> bool
 pub fn epoch_fits(e: i64) -> bool
     ensures { λ r. ⌜ r ≡ K.epochFits e ⌝ }
 {
-    number::magnitude(e) <= 146100
+    number::magnitude(e) <= EPOCH_MOST
 }
 
 // Grains from the mark: p - 1,461,000,000 m.
@@ -101,9 +114,9 @@ pub fn from_mark(m: Vec3, p: Vec3) -> Vec3
     ensures { λ r. ⌜ r ≡ K.fromMark m p ⌝ }
 {
     Vec3 {
-        x: p.x - 1461000000 * m.x,
-        y: p.y - 1461000000 * m.y,
-        z: p.z - 1461000000 * m.z,
+        x: p.x - METRE * m.x,
+        y: p.y - METRE * m.y,
+        z: p.z - METRE * m.z,
     }
 }
 
@@ -115,7 +128,7 @@ pub fn position_fits(m: Vec3, p: Vec3) -> bool
     if !sized(p, 10000000000000000) {
         return false;
     }
-    sized(from_mark(m, p), 1461000000000)
+    sized(from_mark(m, p), FARTHEST)
 }
 
 // The refusals 2 to 9 of a card, or 0. `zeros` says that the record's zero bytes are zero.
@@ -126,7 +139,7 @@ pub fn number(c: Card, zeros: bool) -> u32
     if !site_shape(&site) {
         return 2;
     }
-    if 2 < c.frame {
+    if mark::LAST_FRAME < c.frame {
         return 3;
     }
     if !zeros {
@@ -141,13 +154,13 @@ pub fn number(c: Card, zeros: bool) -> u32
     if mark::check_mark(c.mark) != 0 {
         return 6;
     }
-    if !sized(c.velocity, 500000) {
+    if !sized(c.velocity, VELOCITY_MOST) {
         return 7;
     }
     if !position_fits(c.mark, c.position) {
         return 8;
     }
-    if !sized(c.solid, 1461000000) {
+    if !sized(c.solid, TIDE_MOST) {
         return 9;
     }
     0
@@ -314,7 +327,7 @@ pub fn opened_number(f: Opened, zeros: bool) -> u32
     if !site_shape(&site) {
         return 2;
     }
-    if 2 < f.frame {
+    if mark::LAST_FRAME < f.frame {
         return 3;
     }
     if !zeros {
@@ -358,9 +371,9 @@ pub fn expanded(f: Opened) -> Card
             z: 100 * f.speed.z,
         },
         position: Vec3 {
-            x: 1461000000 * f.mark.x + 146100 * f.offset.x,
-            y: 1461000000 * f.mark.y + 146100 * f.offset.y,
-            z: 1461000000 * f.mark.z + 146100 * f.offset.z,
+            x: METRE * f.mark.x + 146100 * f.offset.x,
+            y: METRE * f.mark.y + 146100 * f.offset.y,
+            z: METRE * f.mark.z + 146100 * f.offset.z,
         },
         solid: Vec3 { x: 0, y: 0, z: 0 },
     }
@@ -478,13 +491,13 @@ pub fn reframed(c: Card, frame: u8) -> Answer
     requires { ⌜ K.Valid c ⌝ }
     ensures { λ r. ⌜ r ≡ S.after c (L.frame frame) ⌝ }
 {
-    if 2 < frame {
+    if mark::LAST_FRAME < frame {
         return Answer { number: 3, card: c };
     }
     let f = mark::frame_terms(c.mark, c.frame);
     let g = mark::frame_terms(c.mark, frame);
     let velocity = plus(c.velocity, minus(g.b, f.b));
-    if !sized(velocity, 500000) {
+    if !sized(velocity, VELOCITY_MOST) {
         return Answer { number: 7, card: c };
     }
     let there = plus(g.a, scaled(c.epoch, g.b));

@@ -9,6 +9,9 @@ ghost use Rattle.mark.specs.Series as S;
 
 mod steps;
 
+// The last frame: 0 ITRF2008, 1 ITRF2005, 2 ITRF2000.
+pub const LAST_FRAME: u8 = 2;
+
 // Three numbers: whole metres of a mark, grains of a shift.
 pub struct Vec3 {
     pub x: i64,
@@ -59,7 +62,7 @@ pub struct Rows {
 pub fn check_mark(m: Vec3) -> u32
     ensures { λ r. ⌜ r ≡ M.markNumber m ⌝ }
 {
-    if steps::squares_within(m, 6300000, 6400000) == 0 {
+    if steps::squares_within(m, steps::MARK_LEAST, steps::MARK_MOST) == 0 {
         6
     } else {
         0
@@ -70,7 +73,7 @@ pub fn check_mark(m: Vec3) -> u32
 pub fn permanent(m: Vec3) -> Shift
     ensures { λ r. ⌜ r ≡ P.permanentAnswer m ⌝ }
 {
-    let l = steps::whole_length(m, 6300000, 6400000);
+    let l = steps::whole_length(m, steps::MARK_LEAST, steps::MARK_MOST);
     if l == 0 {
         return refused(6);
     }
@@ -86,14 +89,14 @@ pub fn frame_terms(m: Vec3, frame: u8) -> Terms
     ensures { λ r. ⌜ r ≡ F.termsAnswer frame m ⌝ }
 {
     let zero = Vec3 { x: 0, y: 0, z: 0 };
-    if 2 < frame {
+    if LAST_FRAME < frame {
         return Terms {
             number: 3,
             a: zero,
             b: zero,
         };
     }
-    if steps::squares_within(m, 6300000, 6400000) == 0 {
+    if steps::squares_within(m, steps::MARK_LEAST, steps::MARK_MOST) == 0 {
         return Terms {
             number: 6,
             a: zero,
@@ -120,7 +123,7 @@ pub fn frame_terms(m: Vec3, frame: u8) -> Terms
 pub fn solid_tide(m: Vec3, first: Body, second: Body) -> Shift
     ensures { λ r. ⌜ r ≡ T.tideAnswer m first second ⌝ }
 {
-    let l = steps::whole_length(m, 6300000, 6400000);
+    let l = steps::whole_length(m, steps::MARK_LEAST, steps::MARK_MOST);
     if l == 0 {
         return refused(6);
     }
@@ -142,7 +145,7 @@ pub fn series(m: Vec3, bodies: &[f64], out: &mut [i64]) -> Rows
     ensures { λ r. ⌜ r ≡ S.seriesAnswer m (now (bodies .entry)) (length (now (out .entry))) ⌝ }
     ensures { λ r. ⌜ now (out .exit) ≡ S.seriesNumbers m (now (bodies .entry)) (now (out .entry)) ⌝ }
 {
-    let l = steps::whole_length(m, 6300000, 6400000);
+    let l = steps::whole_length(m, steps::MARK_LEAST, steps::MARK_MOST);
     if l == 0 {
         return Rows { number: 6, row: 0 };
     }

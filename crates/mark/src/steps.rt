@@ -19,6 +19,28 @@ use crate::Shift;
 use crate::Vec3;
 use number::Rounded;
 
+// The whole length of a mark, metres.
+pub const MARK_LEAST: u64 = 6300000;
+
+pub const MARK_MOST: u64 = 6400000;
+
+// The whole distance of the Moon in metres and of the Sun in kilometres, R0 in the same, K0 in grains.
+const MOON_LEAST: u64 = 350000000;
+
+const MOON_MOST: u64 = 410000000;
+
+const MOON_R0: i64 = 384400000;
+
+const MOON_K0: i64 = 523578453;
+
+const SUN_LEAST: u64 = 146000000;
+
+const SUN_MOST: u64 = 153000000;
+
+const SUN_R0: i64 = 149597870;
+
+const SUN_K0: i64 = 240449078;
+
 // What is seen of a body: 10 not finite, 11 out of reach, else 0, its whole vector and the sum of its squares.
 pub struct Seen {
     pub number: u32,
@@ -336,8 +358,8 @@ pub fn pair_tide(u: Vec3, v: BodyVector, w: BodyVector) -> Shift
     ensures { λ r. ⌜ r ≡ T.pairAnswer u v w ⌝ }
 {
     let nowhere = Vec3 { x: 0, y: 0, z: 0 };
-    let moon = see(v, 350000000, 410000000);
-    let sun = see(w, 146000000, 153000000);
+    let moon = see(v, MOON_LEAST, MOON_MOST);
+    let sun = see(w, SUN_LEAST, SUN_MOST);
     let number = both(moon.number, sun.number);
     if number != 0 {
         return Shift {
@@ -345,8 +367,8 @@ pub fn pair_tide(u: Vec3, v: BodyVector, w: BodyVector) -> Shift
             shift: nowhere,
         };
     }
-    let a = seen_part(384400000, 523578453, u, moon);
-    let b = seen_part(149597870, 240449078, u, sun);
+    let a = seen_part(MOON_R0, MOON_K0, u, moon);
+    let b = seen_part(SUN_R0, SUN_K0, u, sun);
     Shift {
         number: 0,
         shift: Vec3 {
@@ -400,8 +422,8 @@ pub fn scan(bodies: &[f64], rows: usize) -> Rows
             }
             j += 1;
         }
-        let moon = see(body_at(bodies, 6 * i), 350000000, 410000000);
-        let sun = see(body_at(bodies, 6 * i + 3), 146000000, 153000000);
+        let moon = see(body_at(bodies, 6 * i), MOON_LEAST, MOON_MOST);
+        let sun = see(body_at(bodies, 6 * i + 3), SUN_LEAST, SUN_MOST);
         let number = both(moon.number, sun.number);
         if number != 0 {
             break 'rows Rows { number, row: i };
