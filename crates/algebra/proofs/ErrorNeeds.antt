@@ -3,7 +3,7 @@
 -- Each is over plain numbers: x, y, u are the rounded numbers, N/D and M/C the fractions that they stand for, s, t scales.
 -- `x D - s N` is how far x is from s N/D, times D. All go by differences; a ring normaliser would do as well.
 use mathlib.Core.Path.{_≡_, sym, ap, _∙_}
-use Prim.Native.Nat.{ℕ, suc, _+_, _-_, _*_, _≤_, _<_}
+use Prim.Native.Nat.{ℕ, suc, _+_, _*_, _≤_, _<_}
 use native.Mathlib.Nat.{eq-of-mul-eq-mul-right}
 use native.Mathlib.Omega.{arith}
 use lib.IntN.{ℤ, pos, negℤ, natAbs, _+ℤ_, _-ℤ_, _*ℤ_}

@@ -6,14 +6,14 @@
 -- answers a need by `fit` (the result fits), `toU` (a cast to u64) or `told` (the equation).
 use mathlib.Core.Path.{_≡_, refl, sym, ap, ap₂, _∙_, subst, subst⁻¹}
 use mathlib.Core.Bool.{Bool, true, false}
-use Prim.Native.Nat.{ℕ, zero, suc, _+_, _-_, _*_, _^_, _≤_, _<_}
+use Prim.Native.Nat.{ℕ, suc, _+_, _*_, _^_, _≤_, _<_}
 use native.Mathlib.Nat.{le-refl, lt-of-le-of-lt, mul-le-mul, not-suc-le-zero}
 use native.Mathlib.Omega.{arith}
 use lib.Dec.{T, lit<, ltb→lt}
 use lib.IntN.{ℤ, pos, negsuc, negℤ, natAbs, _+ℤ_, _-ℤ_, _*ℤ_, +ℤ-idl}
 use lib.Signed.{mag, nonNeg, leZ, ltZ, _≤ℤ_, _<ℤ_, ltZ-no}
 use mir.Syntax.{w64}
-use mir.Val.{Fits, SFits, toZ, ofZ, hbits, bits}
+use mir.Val.{Fits, SFits, toZ, ofZ}
 use mir.Facts.{toZ-ofZ, toZ-pos}
 use Rattle.algebra.proofs.IntLaws.{abs-+, abs--, abs-*, abs-neg}
 

@@ -1,5 +1,5 @@
 -- What the readers and the writers answer, from the length of what they were lent and the number of what it holds.
-use mathlib.Core.Path.{_≡_, refl, sym, ap, _∙_}
+use mathlib.Core.Path.{_≡_, sym, ap, _∙_}
 use mathlib.Core.Bool.{Bool, true, false, not, cond}
 use mathlib.Core.List.{List, [], _∷_, _++_}
 use Prim.Native.Nat.{ℕ}
@@ -14,8 +14,8 @@ use Rattle.card.specs.declared.Card.{Card}
 use Rattle.card.specs.declared.Answer.{Answer}
 use Rattle.card.specs.declared.steps.Opened.{Opened}
 use Rattle.card.specs.Checks.{checks}
-use Rattle.card.specs.Codec.{cardLength, encode, decode, zeroCard, readNumber, readCard, writeNumber, written}
-use Rattle.card.specs.Field.{fieldLength, fieldOf, exportNumber, exported, openedOf, zeroBytes, openedChecks, fieldNumber, expandedOf, expandCard}
+use Rattle.card.specs.Codec.{encode, decode, zeroCard, readNumber, readCard, writeNumber, written}
+use Rattle.card.specs.Field.{fieldOf, exportNumber, exported, openedOf, zeroBytes, openedChecks, fieldNumber, expandedOf, expandCard}
 use Rattle.card.specs.Steps.{refusedWith}
 use Rattle.card.proofs.CheckLaws.{positive-checks}
 use Rattle.card.proofs.TableLaws.{passed, stopped}

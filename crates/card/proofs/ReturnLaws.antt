@@ -17,7 +17,6 @@ use Rattle.card.specs.declared.Card.{Card}
 use Rattle.card.specs.declared.Answer.{Answer}
 use Rattle.card.specs.declared.steps.Opened.{Opened}
 use Rattle.card.specs.Checks.{metre, minus, scaled, fromMark, cardNumber}
-use Rattle.card.specs.Layout.{three}
 use Rattle.card.specs.Field.{roundedBy, offsetOf, speedOf, fieldOf, openedOf, expandedOf, expandCard, exportNumber, exported}
 use Rattle.card.proofs.PackLaws.{taken}
 use Rattle.card.proofs.FieldLaws.{opened-field, expand-exported}

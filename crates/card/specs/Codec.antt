@@ -1,16 +1,16 @@
 -- The card's 88 bytes: what is written of a card, what is read of bytes, and the answers with their refusals.
-use Prim.Native.Nat.{ℕ, zero}
+use Prim.Native.Nat.{ℕ}
 use mathlib.Core.List.{List, [], _∷_, _++_}
 use mathlib.Core.Bool.{Bool, not, cond}
 use lib.Dec.{eqb}
 use lib.ListN.{length, getD, take, replicate}
-use lib.IntN.{ℤ, pos}
+use lib.IntN.{pos}
 use Rattle.octets.specs.Octets.{signedAt}
 use Rattle.mark.specs.Mark.{nowhere}
-use Rattle.mark.specs.Refusal.{Table, first}
+use Rattle.mark.specs.Refusal.{first}
 use Rattle.card.specs.declared.Card.{Card}
 use Rattle.card.specs.declared.Answer.{Answer}
-use Rattle.card.specs.Checks.{checks, cardNumber}
+use Rattle.card.specs.Checks.{checks}
 use Rattle.card.specs.Layout.{Fields, run, three, vectorAt, head}
 
 -- the card's length in bytes

@@ -1,14 +1,14 @@
 -- The field record, 48 bytes: the offset from the mark in 0.1 mm and the velocity in 0.1 mm a year. No solid tide.
-use Prim.Native.Nat.{ℕ, _*_}
+use Prim.Native.Nat.{ℕ}
 use mathlib.Core.List.{List, [], _∷_, _++_}
 use mathlib.Core.Bool.{Bool, true, not, cond, _&&_}
 use lib.Dec.{eqb, leb}
 use lib.ListN.{length, getD, take}
-use lib.IntN.{ℤ, pos, _+ℤ_, _*ℤ_}
+use lib.IntN.{ℤ, pos}
 use Rattle.octets.specs.Octets.{signedAt}
 use Rattle.number.specs.Near.{near}
 use Rattle.mark.specs.declared.Vec3.{Vec3}
-use Rattle.mark.specs.Mark.{vec, nowhere, each, marked}
+use Rattle.mark.specs.Mark.{nowhere, each, marked}
 use Rattle.mark.specs.Tide.{plus}
 use Rattle.mark.specs.Frame.{knownFrame}
 use Rattle.mark.specs.Refusal.{Table, first}
@@ -16,7 +16,7 @@ use Rattle.card.specs.declared.Card.{Card}
 use Rattle.card.specs.declared.Answer.{Answer}
 use Rattle.card.specs.declared.steps.Opened.{Opened}
 use Rattle.card.specs.Checks.{metre, sized, scaled, siteShape, epochFits, fromMark, checks}
-use Rattle.card.specs.Layout.{Fields, run, three, vectorAt, head}
+use Rattle.card.specs.Layout.{run, three, vectorAt, head}
 use Rattle.card.specs.Codec.{zeroCard}
 
 abbrev pub fieldLength : ℕ

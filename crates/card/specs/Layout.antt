@@ -1,12 +1,11 @@
 -- The layout: a record is the site, frame, byte 10, a zero byte, then numbers in turn, big-endian, two's complement.
 use Prim.Native.Nat.{ℕ, _+_, _*_}
 use mathlib.Core.List.{List, [], _∷_, _++_}
-use lib.ListN.{getD, take}
+use lib.ListN.{take}
 use lib.IntN.{ℤ}
 use Rattle.octets.specs.Octets.{bytesOf, signedAt, splice}
 use Rattle.mark.specs.declared.Vec3.{Vec3}
 use Rattle.mark.specs.Mark.{vec}
-use Rattle.card.specs.declared.Card.{Card}
 
 -- numbers with their widths in bytes, in the record's order
 abbrev pub Fields : Type 0

@@ -1,5 +1,4 @@
 -- Metres out: the position's distance from the mark, each component the grain count as a double, divided once by 1461000000.
-use Prim.Native.Nat.{ℕ}
 use mathlib.Core.Bool.{cond}
 use lib.Dec.{eqb}
 use lib.IntN.{ℤ, pos}

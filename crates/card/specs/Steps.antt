@@ -1,9 +1,5 @@
 -- What the private steps of the card answer, in the words of the paper's definitions.
 use Prim.Native.Nat.{ℕ}
-use mathlib.Core.List.{List, [], _∷_}
-use mathlib.Core.Bool.{Bool, not, cond}
-use lib.Dec.{eqb}
-use lib.IntN.{ℤ}
 use Rattle.mark.specs.declared.Vec3.{Vec3}
 use Rattle.mark.specs.Refusal.{first}
 use Rattle.card.specs.declared.Card.{Card}

@@ -5,7 +5,7 @@ use mathlib.Core.List.{List, [], _∷_, _++_, append-assoc}
 use Prim.Native.Nat.{ℕ, zero, suc, _+_, _-_, _*_, _/_, _%_, _^_, _≤_, _<_}
 use native.Mathlib.Nat.{pow-suc}
 use native.Mathlib.Omega.{arith}
-use borrow.Author.Tests.{lt-ltb, le-ltb, eq-eqb, ne-eqb}
+use borrow.Author.Tests.{lt-ltb, le-ltb, ne-eqb}
 use lib.Dec.{ltb, eqb}
 use lib.ListN.{length, length-append, length-take, take, set}
 use lib.IntN.{ℤ, pos, negsuc}
@@ -16,7 +16,7 @@ use Rattle.card.specs.declared.Card.{Card}
 use Rattle.card.specs.declared.Answer.{Answer}
 use Rattle.card.specs.Codec.{readNumber, readCard, decode}
 use Rattle.octets.specs.Octets.{splice}
-use Rattle.octets.proofs.OctetLaws.{splice-append, length-splice, part-splice}
+use Rattle.octets.proofs.OctetLaws.{splice-append, part-splice}
 use Rattle.catalogue.specs.Line.{digits, placesIn, places, natural, integer, numbers, refusedWord, refusedLine, cardLine, lineOf}
 
 pub length-digits : (k n : ℕ) → length (digits k n) ≡ k

@@ -1,6 +1,6 @@
 -- The catalogue reader: one step from a place in the lent bytes, and what all the steps give.
 use Prim.Native.Nat.{ℕ, zero, suc, _+_, _-_, _/_}
-use mathlib.Core.List.{List, [], _∷_, map}
+use mathlib.Core.List.{List, [], _∷_}
 use mathlib.Core.Bool.{Bool, true, false, cond}
 use lib.Dec.{leb, ltb}
 use lib.ListN.{length, take, drop}

@@ -1,10 +1,10 @@
 -- Cases 2 to 6, 9 and 12 of the paper, computed on the definitions.
 use mathlib.Core.Path.{_≡_, refl}
-use lib.IntN.{pos, negsuc, negℤ, _*ℤ_}
+use lib.IntN.{pos, negℤ, _*ℤ_}
 use Rattle.number.specs.Near.{near, nearest}
 use Rattle.number.specs.Root.{root, rootIn, refine}
 use Rattle.mark.specs.declared.Vec3.{Vec3}
-use Rattle.mark.specs.Mark.{E, times, vec, plus, minus, scaled, squares, lengthOf, marked, markNumber}
+use Rattle.mark.specs.Mark.{times, vec, plus, minus, scaled, squares, lengthOf, marked, markNumber}
 use Rattle.mark.specs.Permanent.{unit, units, s2, legendre, small, radial, north, down, across, along, permanentOf, permanent}
 use Rattle.mark.specs.Frame.{rowOf, offset, drift, frameA, frameB, frameAt, frameShift}
 use Rattle.mark.specs.Bodies.{moon}

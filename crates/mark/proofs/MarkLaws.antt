@@ -1,12 +1,11 @@
 -- An accepted mark: its whole length is from 6,300,000 to 6,400,000 metres, and no component is longer.
 use mathlib.Core.Path.{_≡_, refl}
-use mathlib.Core.Bool.{Bool, true, false, not, cond}
-use Prim.Native.Nat.{ℕ, _≤_, _<_}
+use mathlib.Core.Bool.{true, false}
 use native.Mathlib.Omega.{arith}
 use lib.Dec.{lit≤}
 use Rattle.mark.specs.declared.Vec3.{Vec3}
 use Rattle.mark.specs.declared.Shift.{Shift}
-use Rattle.mark.specs.Mark.{nowhere, lengthOf, between, marked, markNumber, squaresWithin, lengthWithin}
+use Rattle.mark.specs.Mark.{nowhere, lengthOf, marked, markNumber, squaresWithin, lengthWithin}
 use Rattle.mark.specs.Permanent.{units, permanent, permanentAnswer}
 use Rattle.mark.specs.Refusal.{first}
 use Rattle.mark.specs.Ranges.{Within, Direction}

@@ -3,9 +3,8 @@
 -- Radial (-0.1206 + 0.0001 P) P and north (-0.0252 - 0.0001 P) sin 2φ, metres, with P = (3 sin²φ - 1)/2. In grains 0.0001 m is
 -- 146,100, 0.1206 m is 176,196,600 and 0.0252 m is 36,817,200.
 use Prim.Native.Nat.{ℕ}
-use mathlib.Core.List.{[], _∷_}
 use lib.IntN.{ℤ, pos, negℤ, _+ℤ_, _-ℤ_, _*ℤ_}
-use mathlib.Core.Bool.{not, cond}
+use mathlib.Core.Bool.{cond}
 use Rattle.number.specs.Near.{near}
 use Rattle.mark.specs.declared.Vec3.{Vec3}
 use Rattle.mark.specs.declared.Shift.{Shift}

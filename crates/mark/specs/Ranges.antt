@@ -1,6 +1,6 @@
 -- What the private steps ask of their arguments, so that nothing on the way leaves 64 bits.
-use Prim.Native.Nat.{ℕ, _+_, _*_, _^_, _≤_, _<_}
-use lib.IntN.{ℤ, natAbs}
+use Prim.Native.Nat.{ℕ, _+_, _*_, _≤_}
+use lib.IntN.{natAbs}
 use Rattle.mark.specs.declared.Vec3.{Vec3}
 use Rattle.mark.specs.Mark.{E, squares}
 

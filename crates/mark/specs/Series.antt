@@ -1,7 +1,7 @@
 -- The tide series: a mark, a run of doubles, six to a row (Moon, then Sun), and a run of numbers, three to a row, that take the tide.
 use Prim.Native.Nat.{ℕ, zero, suc, _+_, _*_, _/_}
 use mathlib.Core.List.{List, [], _∷_, _++_}
-use mathlib.Core.Bool.{Bool, not, cond, _&&_}
+use mathlib.Core.Bool.{Bool, cond, _&&_}
 use lib.Dec.{eqb}
 use lib.ListN.{length, getD}
 use lib.IntN.{ℤ}
@@ -11,7 +11,6 @@ use Rattle.mark.specs.declared.BodyVector.{BodyVector}
 use Rattle.mark.specs.declared.Rows.{Rows}
 use Rattle.mark.specs.Mark.{marked}
 use Rattle.mark.specs.Tide.{bodiesNumber, tide, pairAnswer}
-use Rattle.mark.specs.Refusal.{choose}
 
 -- three doubles from place `at`
 unfoldable pub bodyAt : List Float → ℕ → BodyVector

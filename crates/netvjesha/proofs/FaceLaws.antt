@@ -1,14 +1,13 @@
 -- What the face answers, from the output's length, the record that was read and the call's answer. An accepted call's card is always written.
 use mathlib.Core.Path.{_≡_, refl, sym, ap, _∙_, subst}
-use mathlib.Core.Bool.{Bool, true, false, not, cond}
-use mathlib.Core.List.{List, [], _∷_, _++_}
+use mathlib.Core.Bool.{true, not, cond}
+use mathlib.Core.List.{List, [], _∷_}
 use Prim.Native.Nat.{ℕ, zero, suc, _≤_, _<_}
 use native.Mathlib.Omega.{arith}
 use borrow.Author.Tests.{eq-eqb, ne-eqb, le-leb, lt-leb}
-use lib.Dec.{eqb, leb}
+use lib.Dec.{eqb}
 use lib.ListN.{length}
 use Rattle.mark.specs.declared.BodyVector.{BodyVector}
-use Rattle.mark.specs.declared.Body.{Body}
 use Rattle.mark.specs.declared.Body.the-variants.{Moon, Sun}
 use Rattle.mark.specs.Refusal.{first}
 use Rattle.mark.specs.Bodies.{paired}
@@ -16,7 +15,7 @@ use Rattle.mark.proofs.RefusalLaws.{onward}
 use Rattle.card.specs.declared.Card.{Card}
 use Rattle.card.specs.declared.Answer.{Answer}
 use Rattle.card.specs.Checks.{checks, cardNumber}
-use Rattle.card.specs.Codec.{cardLength, encode, decode, readNumber, readCard, zeroCard, writeNumber, written}
+use Rattle.card.specs.Codec.{encode, decode, readNumber, readCard, zeroCard, writeNumber, written}
 use Rattle.card.specs.Field.{fieldOf, fieldNumber, openedOf, expandedOf, expandCard, exportNumber, exported}
 use Rattle.card.specs.Calls.{Call, solidOn, next, own, callNumber}
 use Rattle.card.specs.Bytes.{before, kept, bytesNumber, bytesOut}

@@ -4,7 +4,6 @@ use mathlib.Core.Bool.{Bool, true, false, cond}
 use mathlib.Core.List.{List, [], _∷_}
 use Prim.Native.Nat.{ℕ, zero, suc, _+_, _*_, _%_, _^_, _<_}
 use native.Mathlib.Omega.{arith}
-use borrow.Author.Tests.{eq-eqb, ne-eqb}
 use lib.Dec.{eqb, lit<}
 use native.Mathlib.Nat.{mod-lt}
 use lib.ListN.{length, set}
@@ -16,19 +15,16 @@ use mir.Facts.{toZ-ofZ}
 use Rattle.mark.specs.declared.Vec3.{Vec3}
 use Rattle.mark.specs.declared.Shift.{Shift}
 use Rattle.mark.specs.declared.Rows.{Rows}
-use Rattle.mark.specs.declared.BodyVector.{BodyVector}
 use Rattle.mark.specs.Refusal.{first}
 use Rattle.mark.specs.Mark.{vec, marked, markNumber}
 use Rattle.mark.specs.Permanent.{permanent, permanentAnswer}
 use Rattle.mark.specs.Tide.{bodiesNumber}
 use Rattle.mark.specs.Series.{three, rowNumber, rowsFit, scan, seriesAnswer}
-use Rattle.card.specs.declared.Card.{Card}
 use Rattle.card.specs.declared.Answer.{Answer}
 use Rattle.card.specs.declared.Metres.{Metres}
 use Rattle.card.specs.Codec.{decode, readNumber, readCard}
 use Rattle.card.specs.MetresOut.{metresOf}
 use Rattle.card.proofs.TableLaws.{mark-accepted}
-use Rattle.card.specs.Bytes.{roomy, kept}
 use Rattle.netvjesha.specs.Face.{threeMetres, metresNumber, metresOut, packed, permanentNumber, permanentOut}
 use Rattle.card.proofs.BytesLaws.{one, too-short, long-enough, keeps, takes}
 use Rattle.netvjesha.proofs.FaceLaws.{number-read, card-read}

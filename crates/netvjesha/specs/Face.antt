@@ -2,7 +2,7 @@
 -- first (1), then the record's own checks. A refused call leaves the output as it was.
 use Prim.Native.Nat.{ℕ, _+_, _*_, _%_, _^_}
 use mathlib.Core.List.{List, [], _∷_}
-use mathlib.Core.Bool.{Bool, not, cond, _&&_}
+use mathlib.Core.Bool.{cond}
 use lib.Dec.{eqb, leb}
 use lib.ListN.{length}
 use lib.IntN.{ℤ}
@@ -12,10 +12,9 @@ use Rattle.mark.specs.declared.Rows.{Rows}
 use Rattle.mark.specs.declared.BodyVector.{BodyVector}
 use Rattle.mark.specs.declared.Body.{Body}
 use Rattle.mark.specs.declared.Body.the-variants.{Moon, Sun}
-use Rattle.mark.specs.Mark.{vec, markNumber}
+use Rattle.mark.specs.Mark.{markNumber}
 use Rattle.mark.specs.Permanent.{permanent}
-use Rattle.mark.specs.Series.{three, seriesAnswer, seriesNumbers}
-use Rattle.card.specs.declared.Card.{Card}
+use Rattle.mark.specs.Series.{three}
 use Rattle.card.specs.declared.Answer.{Answer}
 use Rattle.card.specs.declared.Metres.{Metres}
 use Rattle.card.specs.Codec.{cardLength, encode, decode, readNumber, writeNumber, written}

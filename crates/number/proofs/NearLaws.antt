@@ -1,11 +1,11 @@
 -- The laws of `near`: off by at most a half, exact at multiples, odd, the same for equal fractions, not negative where the fraction is
 -- not, and no larger than a whole bound. Nothing above may use more, so that another rule for halves changes this file and nothing else.
 use mathlib.Core.Path.{_≡_, refl, sym, ap, _∙_, subst}
-use Prim.Native.Nat.{ℕ, zero, suc, _+_, _-_, _*_, _/_, _%_, _≤_, _<_, zero-le}
+use Prim.Native.Nat.{ℕ, zero, suc, _+_, _*_, _/_, _%_, _≤_, _<_, zero-le}
 use native.Mathlib.Nat.{mul-comm, le-of-suc-le-suc, div-eq-of-lt-le, mul-div-mul-left, div-mul-le-self, lt-div-mul-add, div-lt-iff-lt-mul, le-div-iff-mul-le, div-zero, eq-zero-or-pos, div-add-mod', mod-lt, le-mul-of-pos-right}
 use native.Mathlib.Omega.{arith}
 use mathlib.Core.Logic.{inl, inr}
-use lib.IntN.{ℤ, pos, negsuc, negℤ, natAbs, _+ℤ_, _-ℤ_, _*ℤ_, negℤ-negℤ}
+use lib.IntN.{ℤ, pos, negsuc, negℤ, natAbs, _-ℤ_, _*ℤ_, negℤ-negℤ}
 use Rattle.algebra.specs.Rounding.{Half}
 use Rattle.algebra.proofs.Difference.{ℤ⊖}
 use Rattle.algebra.proofs.IntLaws.{abs-neg}

@@ -1,5 +1,5 @@
 -- The laws of the root: r² ≤ n < (r + 1)², and no other number has that. Callers use these and nothing else.
-use mathlib.Core.Path.{_≡_, refl, sym, _∙_}
+use mathlib.Core.Path.{_≡_}
 use mathlib.Core.Bool.{Bool, true, false, not, cond}
 use Prim.Native.Nat.{ℕ, zero, suc, _+_, _*_, _/_, _≤_, _<_}
 use native.Mathlib.Nat.{le-refl, le-antisymm, mul-le-mul, lt-of-not-le, le-of-suc-le-suc}

@@ -1,23 +1,22 @@
 -- A double as a whole number, from its bits: the sign, the exponent's field x and the digits t. Where x is not 0 the number is
 -- (2^52 + t) * 2^(x - 1) over 2^1074.
-use mathlib.Core.Path.{_≡_, refl, sym, ap, _∙_, subst, subst⁻¹}
-use mathlib.Core.Bool.{Bool, true, false, not, cond}
-use Prim.Native.Nat.{ℕ, zero, suc, _+_, _-_, _*_, _/_, _%_, _^_, _≤_, _<_}
+use mathlib.Core.Path.{_≡_, refl, sym, ap, _∙_}
+use mathlib.Core.Bool.{Bool, true, false, cond}
+use Prim.Native.Nat.{ℕ, zero, suc, _+_, _-_, _*_, _^_, _≤_, _<_}
 use native.Mathlib.Nat.{le-of-suc-le-suc, lt-of-lt-of-le, mul-le-mul, mul-lt-mul-of-pos-left, mul-assoc, add-comm, le-add-right, ne-of-lt}
 use native.Mathlib.Omega.{arith}
-use lib.Dec.{T, leb, eqb, le→leb, lit<, lit≤}
+use lib.Dec.{leb, eqb, le→leb, lit<, lit≤}
 use lib.Arith.{lt→nleb}
 use mir.Facts.{no-eqb}
 use lib.Pow.{pow-add, pow-pos, pow-mono, shl-lt}
-use lib.IntN.{ℤ, pos, negsuc, negℤ, natAbs}
-use lib.Ieee.{Float, nan, inf, fin, up, down, odd, ofFields, ofBits, binary64}
+use lib.IntN.{pos, natAbs}
+use lib.Ieee.{Float, nan, inf, fin, up, down, odd, ofFields, binary64}
 use lib.Ieee.Bits.{is-true, is-false}
 use lib.Ieee.Fits.{down-pos}
 use lib.Ieee.Exact.{HasValue, odd-sign}
 use Rattle.number.specs.Near.{nearest, near}
-use Rattle.number.specs.Whole.{signed, Nearest, none, some, wholeOf, shown}
-use Rattle.number.specs.declared.Rounded.{Rounded}
-use Rattle.number.specs.declared.Rounded.the-variants.{NotFinite, Far, Number}
+use Rattle.number.specs.Whole.{signed, none, some, wholeOf, shown}
+use Rattle.number.specs.declared.Rounded.the-variants.{Far, Number}
 use Rattle.number.proofs.NearLaws.{near-odd, nearest-same, nearest-below-half, nearest-least}
 
 -- ---- what is shown of a whole number

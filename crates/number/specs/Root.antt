@@ -1,6 +1,6 @@
 -- The root of n: the greatest whole number whose square is at most n.
 use Prim.Native.Nat.{ℕ, zero, suc, _+_, _*_, _/_, _≤_, _<_}
-use mathlib.Core.Bool.{Bool, true, false, cond}
+use mathlib.Core.Bool.{cond}
 use lib.Dec.{leb}
 
 -- what a root is: r² ≤ n < (r + 1)²

@@ -1,8 +1,8 @@
 -- `card::read` meets its contract: the length, then what the bytes hold. Assumes nothing.
-use mathlib.Core.Path.{_≡_, refl, sym, ap, _∙_}
+use mathlib.Core.Path.{_≡_, refl, sym, _∙_}
 use borrow.Author.Needs.{needs}
 use lib.Dec.{eqb}
-use lib.ListN.{length, getD}
+use lib.ListN.{getD}
 use Rattle.card.specs.Codec.{readNumber}
 use Rattle.card.proofs.AnswerLaws.{read-short, read-number, read-refused, read-taken}
 use Rattle.card.proofs.read.Statement.{statement}

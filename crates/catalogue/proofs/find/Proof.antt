@@ -1,6 +1,6 @@
 -- `catalogue::find` meets its contract: the part that the scan names. Assumes nothing.
 use borrow.Author.Needs.{needs}
-use mathlib.Core.Path.{_≡_, refl, sym, ap, _∙_}
+use mathlib.Core.Path.{_≡_, sym, ap, _∙_}
 use Prim.Native.Nat.{ℕ, _+_, _-_, _≤_}
 use native.Mathlib.Omega.{arith}
 use lib.ListN.{length}
@@ -8,9 +8,6 @@ use Rattle.catalogue.specs.Lookup.{findNumber, findPlace, placeOf}
 use Rattle.catalogue.proofs.LookupLaws.{number-of, place-of, place-refused, place-within, part-of, part-none}
 use Rattle.catalogue.proofs.find.Statement.{statement}
 use Rattle.catalogue.proofs.find.Tie as tie
-use Rattle.catalogue.proofs.find.Reads as reads
-use Rattle.catalogue.proofs.find.Lts as lts
-use Rattle.catalogue.proofs.scan.Reads as scan-reads
 
 scan-requires : tie.Need-scan-requires
 scan-requires c κs = search needs

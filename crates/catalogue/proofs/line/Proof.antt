@@ -1,20 +1,11 @@
 -- `catalogue::line` meets its contract: the text of what was read. Assumes nothing.
-use mathlib.Core.Path.{_≡_, refl, sym, ap, _∙_}
-use mathlib.Core.List.{List, [], _∷_, _++_}
-use Prim.Native.Nat.{ℕ, suc, _+_, _≤_, _<_}
-use native.Mathlib.Omega.{arith}
+use mathlib.Core.Path.{ap, _∙_}
 use lib.ListN.{length}
 use Rattle.octets.specs.Octets.{splice}
-use Rattle.catalogue.specs.Line.{refusedLine, cardLine, lineOf}
 use Rattle.catalogue.proofs.LineLaws.{line-refused, line-taken}
 use borrow.Author.Needs.{needs}
 use Rattle.catalogue.proofs.line.Statement.{statement}
 use Rattle.catalogue.proofs.line.Tie as tie
-use Rattle.catalogue.proofs.line.Reads as reads
-use Rattle.catalogue.proofs.line.Lts as lts
-use Rattle.card.proofs.read.Reads as read-reads
-use Rattle.catalogue.proofs.put_card.Reads as put-card-reads
-use Rattle.catalogue.proofs.put_refused.Reads as put-refused-reads
 
 read-requires : tie.Need-read-requires
 read-requires c κs = search needs

@@ -1,26 +1,18 @@
 -- `catalogue::put_card` meets its contract: the site, five numbers, the line feed. Assumes nothing.
-use mathlib.Core.Path.{_≡_, refl, sym, ap, _∙_}
-use mathlib.Core.List.{List, [], _∷_, _++_}
-use Prim.Native.Nat.{ℕ, suc, _+_, _≤_, _<_}
+use mathlib.Core.Path.{sym, ap, _∙_}
+use mathlib.Core.List.{List, _∷_, _++_}
+use Prim.Native.Nat.{ℕ, _+_, _≤_}
 use native.Mathlib.Omega.{arith}
 use lib.ListN.{length}
-use Rattle.octets.specs.Octets.{splice}
 use Rattle.octets.proofs.OctetLaws.{length-splice}
-use lib.IntN.{ℤ}
 use mir.Syntax.{w64}
 use mir.Val.{toZ, ofZ}
 use Rattle.card.specs.declared.Card.{Card}
 use Rattle.catalogue.specs.Line.{natural, integer, cardLine}
-use Rattle.catalogue.proofs.LineLaws.{Put, put-more, put-one, put-as, length-natural, places-most, integer-most, natural-most, put-number, card-text}
+use Rattle.catalogue.proofs.LineLaws.{Put, put-more, put-one, put-as, integer-most, natural-most, put-number, card-text}
 use borrow.Author.Needs.{needs}
 use Rattle.catalogue.proofs.put_card.Statement.{statement}
 use Rattle.catalogue.proofs.put_card.Tie as tie
-use Rattle.catalogue.proofs.put_card.Reads as reads
-use Rattle.catalogue.proofs.put_card.Lts as lts
-use Rattle.catalogue.proofs.text.put_byte.Reads as put-byte-reads
-use Rattle.catalogue.proofs.text.put_integer.Reads as put-integer-reads
-use Rattle.catalogue.proofs.text.put_natural.Reads as put-natural-reads
-use Rattle.octets.proofs.put_bytes.Reads as put-bytes-reads
 
 slice-aggregate-put-bytes : tie.Need-slice-aggregate-put-bytes
 slice-aggregate-put-bytes c = search needs

@@ -1,20 +1,14 @@
 -- `catalogue::put_refused` meets its contract: the word, the number, the line feed. Assumes nothing.
-use mathlib.Core.Path.{_≡_, refl, sym, ap, _∙_}
-use mathlib.Core.List.{List, [], _∷_, _++_}
-use Prim.Native.Nat.{ℕ, suc, _+_, _≤_, _<_}
+use mathlib.Core.Path.{_≡_, refl}
+use mathlib.Core.List.{List, [], _∷_}
+use Prim.Native.Nat.{ℕ}
 use native.Mathlib.Omega.{arith}
-use lib.ListN.{length}
 use Rattle.octets.specs.Octets.{splice}
-use Rattle.catalogue.specs.Line.{natural, refusedWord, refusedLine}
+use Rattle.catalogue.specs.Line.{natural, refusedWord}
 use Rattle.catalogue.proofs.LineLaws.{Put, put-more, put-one, put-as, length-natural, places-most, refused-text}
 use borrow.Author.Needs.{needs}
 use Rattle.catalogue.proofs.put_refused.Statement.{statement}
 use Rattle.catalogue.proofs.put_refused.Tie as tie
-use Rattle.catalogue.proofs.put_refused.Reads as reads
-use Rattle.catalogue.proofs.put_refused.Lts as lts
-use Rattle.catalogue.proofs.text.put_byte.Reads as put-byte-reads
-use Rattle.catalogue.proofs.text.put_natural.Reads as put-natural-reads
-use Rattle.octets.proofs.put_bytes.Reads as put-bytes-reads
 
 slice-aggregate-put-bytes : tie.Need-slice-aggregate-put-bytes
 slice-aggregate-put-bytes c = search needs

@@ -13,10 +13,6 @@ use Rattle.catalogue.specs.Lookup.{firstFrom, firstPlace}
 use Rattle.catalogue.proofs.LookupLaws.{first-none, first-here, first-later, first-whole, found-0, found-2, found-14, found-15}
 use Rattle.catalogue.proofs.scan.Statement.{statement}
 use Rattle.catalogue.proofs.scan.Tie as tie
-use Rattle.catalogue.proofs.scan.Reads as reads
-use Rattle.catalogue.proofs.scan.Lts as lts
-use Rattle.card.proofs.is_site.Reads as is-site-reads
-use Rattle.catalogue.proofs.has_site.Reads as has-site-reads
 
 pub record Passed (s key : List ℕ) (at : ℕ) : Type 0 where
   pub shape : siteShape key ≡ true

@@ -1,6 +1,6 @@
 -- `catalogue::take_at` meets its contract: done, a short part, or 88 bytes read. Assumes nothing.
 use borrow.Author.Needs.{needs}
-use mathlib.Core.Path.{_≡_, refl, sym, ap, _∙_}
+use mathlib.Core.Path.{_≡_, sym, ap, _∙_}
 use mathlib.Core.Bool.{true, false}
 use mathlib.Core.List.{List}
 use Prim.Native.Nat.{ℕ, _+_, _-_, _≤_, _<_}
@@ -9,15 +9,10 @@ use lib.ListN.{length, take, drop}
 use Rattle.card.specs.declared.Card.{Card}
 use Rattle.card.specs.declared.Answer.{Answer}
 use Rattle.card.specs.Codec.{zeroCard, readCard}
-use Rattle.catalogue.specs.declared.Taken.{Taken}
 use Rattle.catalogue.specs.Reader.{ended, stepped, takenAt}
 use Rattle.catalogue.proofs.ReaderLaws.{taken-end, taken-short, taken-whole}
 use Rattle.catalogue.proofs.take_at.Statement.{statement}
 use Rattle.catalogue.proofs.take_at.Tie as tie
-use Rattle.catalogue.proofs.take_at.Reads as reads
-use Rattle.catalogue.proofs.take_at.Lts as lts
-use Rattle.card.proofs.read.Reads as read-reads
-use Rattle.catalogue.proofs.blank.Reads as blank-reads
 
 done-is : (s : List ℕ) (at : ℕ) (c : Card) → c ≡ zeroCard → length s ≤ at → record { number = 0; done = true; card = c; next = at } ≡ takenAt s at
 unfolding ended

@@ -1,12 +1,11 @@
 -- `list::fill` meets its contract: each part passed has taken at most 120 bytes of the text. Assumes nothing.
-use mathlib.Core.Path.{_≡_, refl, sym, ap, _∙_}
+use mathlib.Core.Path.{_≡_, refl, _∙_}
 use mathlib.Core.List.{List}
 use Prim.Native.Nat.{ℕ, _+_, _-_, _*_, _/_, _%_, _≤_, _<_, min}
 use native.Mathlib.Omega.{arith}
 use borrow.Author.Needs.{needs}
 use lib.ListN.{length, take, drop}
 use borrow.Rule.Slice.PartMut.{same-len-mid}
-use Rattle.catalogue.specs.Line.{lineOf}
 use Rattle.catalogue.proofs.LineLaws.{line-most}
 use Rattle.list.proofs.fill.Statement.{statement}
 use Rattle.list.proofs.fill.Tie as tie

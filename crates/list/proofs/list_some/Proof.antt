@@ -1,17 +1,12 @@
 -- `list::list_some` is safe: what was read and what was filled are within their buffers. Assumes nothing.
 use borrow.Author.Needs.{needs}
-use mathlib.Core.Path.{_≡_, sym, _∙_}
+use mathlib.Core.Path.{_≡_, _∙_}
 use mathlib.Core.List.{List}
 use Prim.Native.Nat.{ℕ, _≤_}
 use native.Mathlib.Omega.{arith}
-use lib.ListN.{length, take, length-take, replicate, length-replicate}
+use lib.ListN.{length, take, length-take, length-replicate}
 use Rattle.list.proofs.list_some.Statement.{statement}
 use Rattle.list.proofs.list_some.Tie as tie
-use Rattle.list.proofs.list_some.Reads as reads
-use Rattle.list.proofs.list_some.Lts as lts
-use Rattle.io.proofs.read_full.Reads as read-full-reads
-use Rattle.io.proofs.write_all.Reads as write-all-reads
-use Rattle.list.proofs.fill.Reads as fill-reads
 
 prefix : (n : ℕ) (s : List ℕ) → n ≤ 61440 → length s ≡ 61440 → n ≡ length (take n s)
 prefix n s h e = simp length-take (omega arith)

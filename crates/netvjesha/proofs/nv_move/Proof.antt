@@ -1,6 +1,5 @@
 -- `netvjesha::nv_move` meets its contract: a move on the card's bytes. Assumes nothing.
 use mathlib.Core.Path.{ap}
-use lib.IntN.{ℤ}
 use mir.Syntax.{w64}
 use mir.Val.{toZ, ofZ}
 use mir.Facts.{toZ-ofZ}

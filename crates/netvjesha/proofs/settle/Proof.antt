@@ -1,6 +1,4 @@
 -- `netvjesha::settle` meets its contract: the answer's number, else the writer's. Assumes nothing.
-use mathlib.Core.Path.{_≡_, refl, _∙_}
-use Prim.Native.Nat.{ℕ}
 use borrow.Author.Needs.{needs}
 use Rattle.netvjesha.proofs.FaceLaws.{settle-refused, settle-written}
 use Rattle.netvjesha.proofs.settle.Statement.{statement}

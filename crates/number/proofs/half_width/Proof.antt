@@ -1,5 +1,5 @@
 -- `number::half_width` meets its contract: from 1 to 32. Assumes nothing.
-use Prim.Native.Nat.{ℕ, _-_, _≤_}
+use Prim.Native.Nat.{_-_, _≤_}
 use native.Mathlib.Omega.{arith}
 use Rattle.number.proofs.half_width.Statement.{statement}
 use Rattle.number.proofs.half_width.Tie as tie

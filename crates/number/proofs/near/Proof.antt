@@ -1,14 +1,14 @@
 -- `number::near` meets its contract: the magnitude is rounded, and the sign put back. What is rounded grows no larger. Assumes nothing.
-use mathlib.Core.Path.{_≡_, refl, sym, ap, _∙_, subst⁻¹}
-use Prim.Native.Nat.{ℕ, zero, suc, _+_, _-_, _*_, _^_, _≤_, _<_}
+use mathlib.Core.Path.{_≡_, sym, ap, _∙_, subst⁻¹}
+use Prim.Native.Nat.{ℕ, zero, suc, _-_, _^_, _≤_, _<_}
 use native.Mathlib.Nat.{le-refl, pos-of-ne-zero}
 use native.Mathlib.Omega.{arith}
 use borrow.Author.Needs.{needs}
-use lib.IntN.{ℤ, pos, negsuc, negℤ, natAbs, _-ℤ_}
+use lib.IntN.{ℤ, pos, negℤ, natAbs, _-ℤ_}
 use mir.Syntax.{w64}
 use mir.Val.{SFits, toZ, ofZ}
 use mir.Facts.{toZ-ofZ, toZ-pos}
-use Rattle.algebra.proofs.Difference.{_⊖_, ℤ⊖}
+use Rattle.algebra.proofs.Difference.{ℤ⊖}
 use Rattle.algebra.proofs.Machine.{Va, lit, at, v-, vneg, ofU, fit, sfits-abs, Negative, negative, Positive, positive}
 use Rattle.number.specs.Near.{nearest, near}
 use Rattle.number.proofs.NearLaws.{nearest-no-larger}

@@ -1,6 +1,6 @@
 -- `number::nearest` meets its contract: quotient and remainder, one more where the remainder is half of b or more. Assumes nothing.
-use mathlib.Core.Path.{_≡_, sym, ap, _∙_}
-use Prim.Native.Nat.{ℕ, _+_, _-_, _*_, _/_, _%_, _≤_, _<_}
+use mathlib.Core.Path.{sym, ap, _∙_}
+use Prim.Native.Nat.{ℕ, _+_, _-_, _/_, _%_, _≤_, _<_}
 use native.Mathlib.Nat.{mod-lt, le-of-lt, div-add-mod', pos-of-ne-zero, le-mul-of-pos-right}
 use native.Mathlib.Omega.{arith}
 use borrow.Author.Needs.{needs}

@@ -1,13 +1,12 @@
 -- `number::whole` meets its contract: only a NaN differs from itself, and any other double is what its bits say. Assumes nothing.
 use mathlib.Core.Path.{_≡_, refl, sym, ap, _∙_, subst}
-use mathlib.Core.Bool.{Bool, true, false, not}
+use mathlib.Core.Bool.{false, not}
 use borrow.Author.Needs.{needs}
 use lib.Dec.{T}
 use lib.Ieee.{Float, nan, inf, fin, ne, isNan, binary64}
 use lib.Ieee.Bits.{ofBits-toBits}
 use lib.Ieee.Compare.{differs-from-itself, nan-differs}
 use Rattle.number.specs.Whole.{wholeOf, shown}
-use Rattle.number.specs.declared.Rounded.{Rounded}
 use Rattle.number.specs.declared.Rounded.the-variants.{NotFinite}
 use Rattle.number.proofs.whole.Statement.{statement}
 use Rattle.number.proofs.whole.Tie as tie

@@ -1,22 +1,21 @@
 -- `number::whole_of_bits` meets its contract, by the four ranges of the exponent's field. Assumes nothing.
-use mathlib.Core.Path.{_≡_, refl, sym, ap, _∙_}
-use mathlib.Core.Bool.{Bool, true, false}
-use Prim.Native.Nat.{ℕ, suc, _+_, _-_, _*_, _/_, _%_, _^_, _≤_, _<_}
-use native.Mathlib.Nat.{mod-lt, one-mul, le-refl}
+use mathlib.Core.Path.{_≡_, sym, ap, _∙_}
+use mathlib.Core.Bool.{Bool}
+use Prim.Native.Nat.{ℕ, _+_, _-_, _*_, _/_, _%_, _^_, _≤_, _<_}
+use native.Mathlib.Nat.{mod-lt, one-mul}
 use native.Mathlib.Numerals.{one-add}
 use native.Mathlib.Omega.{arith}
 use borrow.Author.Needs.{needs}
 use borrow.Author.Tests.{le-leb, lt-leb}
-use lib.Dec.{leb, lit<, lit≤}
+use lib.Dec.{leb, lit<}
 use lib.Pow.{shl-exact}
-use lib.IntN.{ℤ, pos, negℤ, _-ℤ_}
+use lib.IntN.{pos}
 use lib.Ieee.{ofBits, ofFields, binary64}
 use mir.Syntax.{w64}
-use mir.Val.{toZ, ofZ}
+use mir.Val.{toZ}
 use Rattle.algebra.proofs.Machine.{Va, ofU, vneg, at, fit}
 use Rattle.number.specs.Near.{nearest}
-use Rattle.number.specs.Whole.{signed, Nearest, none, some, wholeOf, shown}
-use Rattle.number.specs.declared.Rounded.{Rounded}
+use Rattle.number.specs.Whole.{signed, some, wholeOf, shown}
 use Rattle.number.specs.declared.Rounded.the-variants.{NotFinite, Far, Number}
 use Rattle.number.proofs.WholeLaws.{at-top, far-above, zero-below, rounded, shown-number, shown-far}
 use Rattle.number.proofs.whole_of_bits.Statement.{statement}

@@ -1,7 +1,7 @@
 -- `card::steps::from_mark` meets its contract: p - 1,461,000,000 m, a component at a time. Assumes nothing.
-use mathlib.Core.Path.{_≡_, ap, _∙_}
-use Prim.Native.Nat.{ℕ, _*_, _≤_}
-use lib.Dec.{T, lit<}
+use mathlib.Core.Path.{_≡_}
+use Prim.Native.Nat.{_≤_}
+use lib.Dec.{lit<}
 use lib.IntN.{ℤ, pos, natAbs, _-ℤ_, _*ℤ_}
 use mir.Syntax.{w64}
 use mir.Val.{SFits, toZ, ofZ}
@@ -10,7 +10,7 @@ use Rattle.mark.specs.declared.Vec3.{Vec3}
 use Rattle.mark.specs.Mark.{vec}
 use Rattle.mark.specs.Ranges.{Within}
 use Rattle.mark.proofs.LengthLaws.{vec≡}
-use Rattle.card.specs.Checks.{metre, sized, minus, scaled, fromMark}
+use Rattle.card.specs.Checks.{metre, minus, scaled, fromMark}
 use Rattle.card.proofs.CheckLaws.{sized-within}
 use Rattle.card.proofs.steps.from_mark.Statement.{statement}
 use Rattle.card.proofs.steps.from_mark.Tie as tie

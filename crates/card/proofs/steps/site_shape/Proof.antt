@@ -1,12 +1,11 @@
 -- `card::steps::site_shape` meets its contract. At byte i what is left to look at gives the whole answer. Assumes nothing.
 use mathlib.Core.Path.{_≡_, refl, sym, ap, _∙_}
-use mathlib.Core.Bool.{Bool, true, false, not, _&&_}
+use mathlib.Core.Bool.{Bool, true, false, _&&_}
 use mathlib.Core.List.{List}
-use Prim.Native.Nat.{ℕ, zero, suc, _+_, _-_, _≤_, _<_}
+use Prim.Native.Nat.{ℕ, suc, _+_, _-_, _≤_, _<_}
 use native.Mathlib.Omega.{arith}
 use borrow.Author.Needs.{needs}
-use borrow.Author.Tests.{eq-eqb, ne-eqb, not-true, not-false}
-use lib.Dec.{eqb}
+use borrow.Author.Tests.{ne-eqb, not-true, not-false}
 use lib.ListN.{length, getD}
 use Rattle.card.specs.Checks.{shapeAt, shapeFrom, siteShape}
 use Rattle.card.proofs.steps.site_shape.Statement.{statement}

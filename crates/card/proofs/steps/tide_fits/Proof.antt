@@ -1,11 +1,9 @@
 -- `card::steps::tide_fits` meets its contract. Assumes nothing.
-use mathlib.Core.Path.{_≡_, refl, sym, ap, _∙_}
-use mathlib.Core.Bool.{Bool, true, false, _&&_, _||_}
+use mathlib.Core.Path.{_≡_}
+use mathlib.Core.Bool.{Bool, true, false}
 use Prim.Native.Nat.{ℕ, _≤_, _<_}
-use native.Mathlib.Omega.{arith}
 use borrow.Author.Needs.{needs}
 use borrow.Author.Tests.{le-leb, lt-leb, ne-eqb}
-use lib.Dec.{leb, eqb}
 use Rattle.mark.specs.declared.Vec3.{Vec3}
 use Rattle.card.specs.Checks.{sized, isZero, tideFits}
 use Rattle.card.proofs.steps.tide_fits.Statement.{statement}

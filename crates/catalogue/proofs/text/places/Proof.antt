@@ -1,8 +1,7 @@
 -- `catalogue::text::places` meets its contract: what was counted and what the rest has give the whole count. Assumes nothing.
-use mathlib.Core.Path.{_≡_, refl, sym, ap, _∙_}
-use Prim.Native.Nat.{ℕ, suc, _+_, _-_, _/_, _^_, _≤_, _<_}
+use mathlib.Core.Path.{_≡_, refl}
+use Prim.Native.Nat.{ℕ, _+_, _-_, _/_, _^_, _≤_, _<_}
 use native.Mathlib.Omega.{arith}
-use lib.Dec.{lit≤}
 use Rattle.catalogue.specs.Line.{placesIn, places}
 use Rattle.catalogue.proofs.LineLaws.{places-last, more}
 use Rattle.catalogue.proofs.text.places.Statement.{statement}

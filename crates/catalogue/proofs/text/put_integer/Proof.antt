@@ -1,24 +1,18 @@
 -- `catalogue::text::put_integer` meets its contract: the space, the sign, then the digits. Assumes nothing.
-use mathlib.Core.Path.{_≡_, refl, sym, ap, _∙_}
-use mathlib.Core.List.{List, [], _∷_, _++_}
-use Prim.Native.Nat.{ℕ, suc, _+_, _≤_, _<_}
+use mathlib.Core.Path.{_≡_, sym, ap, _∙_}
+use mathlib.Core.List.{List, _∷_}
+use Prim.Native.Nat.{ℕ, suc, _+_}
 use native.Mathlib.Omega.{arith}
 use lib.ListN.{length}
 use Rattle.octets.specs.Octets.{splice}
-use lib.IntN.{ℤ, pos, negsuc, natAbs}
+use lib.IntN.{pos, negsuc, natAbs}
 use mir.Facts.{toZ-ofZ}
-use Rattle.algebra.proofs.Machine.{Negative, negative, Positive, positive}
+use Rattle.algebra.proofs.Machine.{negative, positive}
 use Rattle.catalogue.specs.Line.{natural, integer}
 use Rattle.catalogue.proofs.LineLaws.{then-put}
 use borrow.Author.Needs.{needs}
 use Rattle.catalogue.proofs.text.put_integer.Statement.{statement}
 use Rattle.catalogue.proofs.text.put_integer.Tie as tie
-use Rattle.catalogue.proofs.text.put_integer.Reads as reads
-use Rattle.catalogue.proofs.text.put_integer.Lts as lts
-use Rattle.catalogue.proofs.text.put_byte.Reads as put-byte-reads
-use Rattle.catalogue.proofs.text.put_digits.Reads as put-digits-reads
-use Rattle.catalogue.proofs.text.put_natural.Reads as put-natural-reads
-use Rattle.number.proofs.magnitude.Reads as magnitude-reads
 
 below : (k m : ℕ) → m ≡ suc k → 45 ∷ natural m ≡ integer (negsuc k)
 unfolding integer

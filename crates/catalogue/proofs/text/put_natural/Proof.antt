@@ -1,19 +1,11 @@
 -- `catalogue::text::put_natural` meets its contract: the space, then the digits. Assumes nothing.
-use mathlib.Core.Path.{_≡_, refl, sym, ap, _∙_}
-use mathlib.Core.List.{List, [], _∷_, _++_}
-use Prim.Native.Nat.{ℕ, suc, _+_, _≤_, _<_}
+use Prim.Native.Nat.{_+_}
 use native.Mathlib.Omega.{arith}
-use lib.ListN.{length}
-use Rattle.octets.specs.Octets.{splice}
 use Rattle.catalogue.specs.Line.{natural}
 use Rattle.catalogue.proofs.LineLaws.{then-put}
 use borrow.Author.Needs.{needs}
 use Rattle.catalogue.proofs.text.put_natural.Statement.{statement}
 use Rattle.catalogue.proofs.text.put_natural.Tie as tie
-use Rattle.catalogue.proofs.text.put_natural.Reads as reads
-use Rattle.catalogue.proofs.text.put_natural.Lts as lts
-use Rattle.catalogue.proofs.text.put_byte.Reads as put-byte-reads
-use Rattle.catalogue.proofs.text.put_digits.Reads as put-digits-reads
 
 put-byte-requires : tie.Need-put-byte-requires
 put-byte-requires c κs = search needs

@@ -1,11 +1,11 @@
 -- `mark::steps::permanent_of` meets its contract: the paper's steps in order, each with its size, so that nothing leaves 64 bits. Assumes nothing.
-use mathlib.Core.Path.{_≡_, sym, ap, _∙_, subst⁻¹}
-use Prim.Native.Nat.{ℕ, _+_, _*_, _^_, _≤_}
+use mathlib.Core.Path.{_≡_, subst⁻¹}
+use Prim.Native.Nat.{_^_, _≤_}
 use native.Mathlib.Nat.{le-trans}
 use lib.Dec.{lit<, lit≤}
 use lib.IntN.{ℤ, pos, negsuc, natAbs, _+ℤ_, _-ℤ_, _*ℤ_}
 use mir.Syntax.{w64}
-use mir.Val.{SFits, toZ, ofZ}
+use mir.Val.{toZ, ofZ}
 use Rattle.algebra.proofs.Machine.{Va, given, plain, lit, at, v+, v-, v*, fit}
 use Rattle.mark.specs.declared.Vec3.{Vec3}
 use Rattle.mark.specs.Mark.{E, times, vec}

@@ -7,7 +7,7 @@ use mir.Facts.{toZ-ofZ}
 use mir.Val.{SFits, toZ, ofZ}
 use Rattle.algebra.proofs.Machine.{answered}
 use Rattle.number.specs.Near.{near}
-use Rattle.mark.specs.Mark.{E, times}
+use Rattle.mark.specs.Mark.{times}
 use Rattle.mark.proofs.steps.times.Statement.{statement}
 use Rattle.mark.proofs.steps.times.Tie as tie
 

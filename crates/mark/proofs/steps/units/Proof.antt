@@ -1,13 +1,11 @@
 -- `mark::steps::units` meets its contract, a component at a time. Assumes nothing.
-use mathlib.Core.Path.{_≡_, sym, ap, _∙_}
+use mathlib.Core.Path.{_≡_, ap, _∙_}
 use Prim.Native.Nat.{ℕ, _^_, _≤_, _<_}
 use native.Mathlib.Omega.{arith}
 use lib.IntN.{ℤ, natAbs}
 use mir.Syntax.{w64}
 use mir.Val.{SFits, toZ, ofZ}
 use mir.Facts.{toZ-ofZ}
-use Rattle.algebra.proofs.Machine.{answered}
-use Rattle.mark.specs.declared.Vec3.{Vec3}
 use Rattle.mark.specs.Mark.{vec}
 use Rattle.mark.specs.Permanent.{unit}
 use Rattle.mark.proofs.steps.units.Statement.{statement}
