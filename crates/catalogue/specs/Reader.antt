@@ -32,7 +32,7 @@ Seen = Bool × Answer
 unfoldable pub seen : Taken → Seen
 seen t = (t .done, record { number = t .number; card = t .card })
 
--- what n steps in a row give, from place `at` on
+-- what n steps in a row give, from place `at` on: what n calls of `next` answer, each of which leaves the reader at the place handed on
 unfoldable pub answers : List ℕ → ℕ → ℕ → List Seen
 answers s at zero = []
 answers s at (suc n) = seen (takenAt s at) ∷ answers s (takenAt s at .next) n

@@ -81,8 +81,21 @@ fn half_width(n: u64) -> u64
     ensures { λ r. ⌜ 1 ≤ r ⌝ }
     ensures { λ r. ⌜ r ≤ 32 ⌝ }
 {
+    if n < 4294967296 {
+        return width_from(n, 1);
+    }
+    width_from(n / 4294967296, 17)
+}
+
+// The same by pairs of bits, counted from `first` on.
+fn width_from(n: u64, first: u64) -> u64
+    requires { ⌜ 1 ≤ first ⌝ }
+    requires { ⌜ first ≤ 32 ⌝ }
+    ensures { λ r. ⌜ 1 ≤ r ⌝ }
+    ensures { λ r. ⌜ r ≤ 32 ⌝ }
+{
     let mut m = n;
-    let mut e = 1u64;
+    let mut e = first;
     while e < 31 {
         if m < 4 {
             return e;

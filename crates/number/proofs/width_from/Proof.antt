@@ -1,17 +1,17 @@
--- `number::half_width` meets its contract: from 1 to 32. Assumes nothing.
+-- `number::width_from` meets its contract: from 1 to 32. Assumes nothing.
 use Prim.Native.Nat.{_-_, _≤_}
 use native.Mathlib.Omega.{arith}
-use Rattle.number.proofs.half_width.Statement.{statement}
-use Rattle.number.proofs.half_width.Tie as tie
+use Rattle.number.proofs.width_from.Statement.{statement}
+use Rattle.number.proofs.width_from.Tie as tie
 
 abbrev Inv-loop : tie.InvT-loop
-Inv-loop n m₀ e₀ m e = (1 ≤ e) × (e ≤ 32)
+Inv-loop n first m₀ e₀ m e = (1 ≤ e) × (e ≤ 32)
 
 abbrev μ-loop : tie.MeasureT-loop
-μ-loop n m₀ e₀ m e = 32 - e
+μ-loop n first m₀ e₀ m e = 32 - e
 
 loop-holds : tie.Need-loop-holds Inv-loop μ-loop
-loop-holds c = (omega arith, omega arith)
+loop-holds c = c .pre
 
 returns : tie.Need-returns Inv-loop μ-loop
 returns c = (omega arith, omega arith)
@@ -34,8 +34,8 @@ loop-again c = (omega arith, omega arith)
 returns-3 : tie.Need-returns-3 Inv-loop μ-loop
 returns-3 c = (omega arith, omega arith)
 
-pub half-width-spec : {M : Type 1} → statement M
-half-width-spec =
+pub width-from-spec : {M : Type 1} → statement M
+width-from-spec =
     tie.close
     (tie.spec
     Inv-loop
