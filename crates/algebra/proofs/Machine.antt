@@ -17,6 +17,10 @@ use mir.Val.{Fits, SFits, toZ, ofZ}
 use mir.Facts.{toZ-ofZ, toZ-pos}
 use Rattle.algebra.proofs.IntLaws.{abs-+, abs--, abs-*, abs-neg}
 
+-- a number as it is read back
+abbrev pub rd : ℤ → ℤ
+rd z = toZ w64 (ofZ w64 z)
+
 pub record Va (x z : ℤ) (n : ℕ) : Type 0 where
   pub told : x ≡ z
   pub small : natAbs z ≤ n

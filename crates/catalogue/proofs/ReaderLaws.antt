@@ -1,7 +1,7 @@
 -- The reader's steps: the parts of the catalogue read in order, a short last one as 1, then done for ever. Assumes nothing.
-use mathlib.Core.Path.{_≡_, refl, ap, _∙_}
+use mathlib.Core.Path.{_≡_, refl, ap, ap₂, _∙_}
 use mathlib.Core.Bool.{Bool, true, false}
-use mathlib.Core.List.{List, _∷_, _++_, map}
+use mathlib.Core.List.{List, [], _∷_, _++_, map}
 use Prim.Native.Nat.{ℕ, zero, suc, _+_, _-_, _*_, _≤_, _<_}
 use native.Mathlib.Omega.{arith}
 use borrow.Author.Tests.{le-leb, lt-leb, lt-ltb, le-ltb, ltb-true, ltb-false}
@@ -10,8 +10,10 @@ use lib.ListN.{length, take, drop, replicate, length-take, length-drop}
 use Rattle.card.specs.declared.Answer.{Answer}
 use Rattle.card.specs.Codec.{zeroCard, readCard}
 use Rattle.card.proofs.AnswerLaws.{read-short}
+use denote.Ref.{RefT}
 use Rattle.catalogue.specs.declared.Taken.{Taken}
-use Rattle.catalogue.specs.Reader.{ended, stepped, takenAt, Seen, seen, answers, partsFrom, partCount, parts, readSeen, doneSeen}
+use Rattle.catalogue.specs.declared.Reader.{Reader}
+use Rattle.catalogue.specs.Reader.{ended, stepped, takenAt, Seen, seen, answers, partsFrom, partCount, parts, readSeen, doneSeen, Reads, told}
 
 -- ---- the three outcomes of a step
 
@@ -91,3 +93,24 @@ all-answers s k = by (partCount s) refl
     by : (n : ℕ) → partCount s ≡ n → answers s 0 (n + k) ≡ map readSeen (partsFrom s 0 n) ++ replicate k doneSeen
     by zero e = let z : 0 + k ≡ k = omega arith in rw z (done-after s 0 k (omega arith))
     by (suc n) e = from-place s 0 n k (omega arith) (omega arith)
+
+-- ---- a reader
+
+reads-answers : (r : Reader) (calls : List (Taken × Reader)) → Reads r calls → told calls ≡ answers (r .src .now) (r .at) (length calls)
+unfolding Reads told answers
+reads-answers r [] h = refl
+reads-answers r (call ∷ calls) h =
+    ap (λ (t : Taken). seen t ∷ told calls) (h .0)
+    ∙ ap (λ (l : List Seen). seen (takenAt (r .src .now) (r .at)) ∷ l)
+    (reads-answers (call .1) calls (h .1 .1 .1)
+    ∙ ap₂ (λ (b : List ℕ) (k : ℕ). answers b k (length calls)) (ap (λ (x : RefT (List ℕ)). x .now) (h .1 .0)) (h .1 .1 .0))
+
+-- what a reader over the lent bytes s answers from its start: the reads of the parts in order, then done for ever
+pub reader-answers :
+    (s : RefT (List ℕ)) (r : Reader) (calls : List (Taken × Reader)) (k : ℕ) → r .src ≡ s → r .at ≡ 0 → Reads r calls → length calls ≡ partCount (s .now) + k
+    → told calls ≡ map readSeen (parts (s .now)) ++ replicate k doneSeen
+reader-answers s r calls k e a h n =
+    reads-answers r calls h
+    ∙ ap₂ (λ (b : List ℕ) (i : ℕ). answers b i (length calls)) (ap (λ (x : RefT (List ℕ)). x .now) e) a
+    ∙ ap (answers (s .now) 0) n
+    ∙ all-answers (s .now) k

@@ -1,4 +1,5 @@
 -- The catalogue reader: one step from a place in the lent bytes, and what all the steps give.
+use mathlib.Core.Path.{_≡_}
 use Prim.Native.Nat.{ℕ, zero, suc, _+_, _-_, _/_}
 use mathlib.Core.List.{List, [], _∷_}
 use mathlib.Core.Bool.{Bool, true, false, cond}
@@ -7,6 +8,7 @@ use lib.ListN.{length, take, drop}
 use Rattle.card.specs.declared.Answer.{Answer}
 use Rattle.card.specs.Codec.{cardLength, zeroCard, readCard}
 use Rattle.catalogue.specs.declared.Taken.{Taken}
+use Rattle.catalogue.specs.declared.Reader.{Reader}
 
 -- nothing is left at place `at`
 unfoldable pub ended : ℕ → Taken
@@ -55,3 +57,17 @@ readSeen part = (false, readCard part)
 
 unfoldable pub doneSeen : Seen
 doneSeen = (true, record { number = 0; card = zeroCard })
+
+-- ---- a reader
+
+-- a run of calls of `next` on reader r: what each answered and the reader that it left. Each link is the promise of one call.
+unfoldable pub Reads : Reader → List (Taken × Reader) → Type 0
+Reads r [] = Unit {0}
+Reads r (call ∷ calls) =
+    (call .0 ≡ takenAt (r .src .now) (r .at))
+    × ((call .1 .src ≡ r .src) × ((call .1 .at ≡ takenAt (r .src .now) (r .at) .next) × Reads (call .1) calls))
+
+-- what the calls answered
+unfoldable pub told : List (Taken × Reader) → List Seen
+told [] = []
+told (call ∷ calls) = seen (call .0) ∷ told calls

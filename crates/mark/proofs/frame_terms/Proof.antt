@@ -8,9 +8,7 @@ use borrow.Author.Tests.{le-ltb, lt-ltb}
 use lib.Dec.{lit<, lit≤}
 use lib.IntN.{ℤ, natAbs}
 use lib.Signed.{mag}
-use mir.Syntax.{w64}
-use mir.Val.{toZ, ofZ}
-use Rattle.algebra.proofs.Machine.{Va, plain, at, answered}
+use Rattle.algebra.proofs.Machine.{rd, Va, plain, at, answered}
 use Rattle.mark.specs.declared.Vec3.{Vec3}
 use Rattle.mark.specs.declared.Row.{Row}
 use Rattle.mark.specs.declared.Terms.{Terms}
@@ -25,10 +23,6 @@ use Rattle.mark.proofs.frame_terms.Tie as tie
 
 abbrev terms : ℕ → Vec3 → Vec3 → Terms
 terms n a b = record { number = n; a = a; b = b }
-
--- a number as it is read back
-abbrev rd : ℤ → ℤ
-rd z = toZ w64 (ofZ w64 z)
 
 -- ---- the rows are small
 

@@ -4,8 +4,8 @@ use Prim.Native.Nat.{_≤_}
 use lib.Dec.{lit<}
 use lib.IntN.{ℤ, pos, natAbs, _-ℤ_, _*ℤ_}
 use mir.Syntax.{w64}
-use mir.Val.{SFits, toZ, ofZ}
-use Rattle.algebra.proofs.Machine.{Va, given, lit, at, v-, v*, fit}
+use mir.Val.{SFits}
+use Rattle.algebra.proofs.Machine.{rd, Va, given, lit, at, v-, v*, fit}
 use Rattle.mark.specs.declared.Vec3.{Vec3}
 use Rattle.mark.specs.Mark.{vec}
 use Rattle.mark.specs.Ranges.{Within}
@@ -14,9 +14,6 @@ use Rattle.card.specs.Checks.{metre, minus, scaled, fromMark}
 use Rattle.card.proofs.CheckLaws.{sized-within}
 use Rattle.card.proofs.steps.from_mark.Statement.{statement}
 use Rattle.card.proofs.steps.from_mark.Tie as tie
-
-abbrev rd : ℤ → ℤ
-rd z = toZ w64 (ofZ w64 z)
 
 -- one component
 module _ (m p : ℤ) (fm : SFits w64 m) (fp : SFits w64 p) (hm : natAbs m ≤ 6400000) (hp : natAbs p ≤ 10000000000000000) where

@@ -7,9 +7,7 @@ use borrow.Author.Needs.{needs}
 use borrow.Author.Tests.{ne-eqb}
 use lib.Dec.{lit<, lit≤}
 use lib.IntN.{ℤ, natAbs, _+ℤ_}
-use mir.Syntax.{w64}
-use mir.Val.{toZ, ofZ}
-use Rattle.algebra.proofs.Machine.{Va, plain, at, v+, fit}
+use Rattle.algebra.proofs.Machine.{rd, Va, plain, at, v+, fit}
 use Rattle.mark.specs.declared.Vec3.{Vec3}
 use Rattle.mark.specs.declared.BodyVector.{BodyVector}
 use Rattle.mark.specs.declared.Shift.{Shift}
@@ -24,10 +22,6 @@ use Rattle.mark.proofs.LengthLaws.{vec≡, at-least, at-most}
 use Rattle.mark.proofs.BodyLaws.{sighted, both-numbers, both-zero}
 use Rattle.mark.proofs.steps.pair_tide.Statement.{statement}
 use Rattle.mark.proofs.steps.pair_tide.Tie as tie
-
--- a number as it is read back
-abbrev rd : ℤ → ℤ
-rd z = toZ w64 (ofZ w64 z)
 
 -- ---- an accepted body
 

@@ -4,9 +4,7 @@ use Prim.Native.Nat.{_^_, _≤_}
 use native.Mathlib.Nat.{le-trans}
 use lib.Dec.{lit<, lit≤}
 use lib.IntN.{ℤ, pos, negsuc, natAbs, _+ℤ_, _-ℤ_, _*ℤ_}
-use mir.Syntax.{w64}
-use mir.Val.{toZ, ofZ}
-use Rattle.algebra.proofs.Machine.{Va, given, plain, lit, at, v+, v-, v*, fit}
+use Rattle.algebra.proofs.Machine.{rd, Va, given, plain, lit, at, v+, v-, v*, fit}
 use Rattle.mark.specs.declared.Vec3.{Vec3}
 use Rattle.mark.specs.Mark.{E, times, vec}
 use Rattle.mark.specs.Permanent.{s2, legendre, small, radial, north, down, across, along, permanentOf}
@@ -15,9 +13,6 @@ use Rattle.mark.proofs.steps.permanent_of.Statement.{statement}
 use Rattle.mark.proofs.steps.permanent_of.Tie as tie
 
 -- a number, read back from a local
-abbrev rd : ℤ → ℤ
-rd z = toZ w64 (ofZ w64 z)
-
 -- the steps as plain numbers
 abbrev s : Vec3 → ℤ
 s u = times (u .z) (u .z)

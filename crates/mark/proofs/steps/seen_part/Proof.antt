@@ -4,8 +4,9 @@ use Prim.Native.Nat.{ℕ, _*_, _^_, _≤_, _<_}
 use borrow.Author.Needs.{needs}
 use lib.IntN.{ℤ, pos, natAbs}
 use mir.Syntax.{w64}
-use mir.Val.{SFits, toZ, ofZ}
+use mir.Val.{SFits}
 use mir.Facts.{toZ-ofZ}
+use Rattle.algebra.proofs.Machine.{rd}
 use Rattle.number.specs.Root.{root}
 use Rattle.mark.specs.declared.Vec3.{Vec3}
 use Rattle.mark.specs.declared.steps.Seen.{Seen}
@@ -18,10 +19,6 @@ use Rattle.mark.proofs.steps.seen_part.Tie as tie
 distance : (s : Seen) (r : ℕ) → r ≡ root (s .squares) → s .squares ≡ squares (s .at) → r ≡ lengthOf (s .at)
 unfolding lengthOf
 distance s r e h = e ∙ ap root h
-
--- a number as it is read back
-abbrev rd : ℤ → ℤ
-rd z = toZ w64 (ofZ w64 z)
 
 -- what `part` asks, of R0, K0, the two vectors and the distance
 abbrev Asks : ℤ → ℤ → Vec3 → Vec3 → ℕ → Type 0
