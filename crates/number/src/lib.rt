@@ -63,7 +63,7 @@ pub fn whole(x: f64) -> Rounded
 }
 
 // At least the root of n, below 2^32. By the chord a + b, a = 2^(e - 1), b = n/2^e, times 91/128, which is more than the root
-// of a half: less than 7 in 100 above the root, so that three steps are enough.
+// of a half: below 2^60 less than 7 in 100 above the root, so that three steps are enough.
 fn start(n: u64) -> u64
     ensures { λ r. ⌜ r < 2 ^ 32 ⌝ }
     ensures { λ r. ⌜ n < (r + 1) * (r + 1) ⌝ }
