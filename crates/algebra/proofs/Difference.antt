@@ -9,7 +9,7 @@ use mathlib.Core.Bool.{Bool, true, false, not, cond}
 use Prim.Native.Nat.{ℕ, zero, suc, _+_, _-_, _*_, _≤_, _<_}
 use native.Mathlib.Omega.{arith}
 use lib.Dec.{T, ltb, leb→le, le→leb, ltb→lt, lt→ltb, nltb→le}
-use lib.IntN.{ℤ, pos, negsuc, negℤ, natAbs, subℕ, _+ℤ_, _-ℤ_, _*ℤ_}
+use lib.IntN.{ℤ, pos, negsuc, negℤ, natAbs, subℕ, _+ℤ_, _*ℤ_}
 use lib.Signed.{_≤ℤ_, _<ℤ_, leZ, ltZ}
 
 infix 65 _⊖_
@@ -166,14 +166,3 @@ lt-⊖ a b c d = (
 )
 
 pub ruleset ℤ⊖ = (pos-⊖, negsuc-⊖, neg-pos-⊖, neg-⊖, add-⊖, mul-⊖, abs-⊖, eq-⊖, le-⊖, lt-⊖)
-
--- ---- worked examples: copy one line
-
-add-mono : (a b c d : ℤ) → a ≤ℤ b → c ≤ℤ d → (a +ℤ c) ≤ℤ (b +ℤ d)
-add-mono a b c d = rw (split a, split b, split c, split d) (simp ℤ⊖ (omega arith))
-
-square-of-sum : (a b : ℤ) → (a +ℤ b) *ℤ (a +ℤ b) ≡ a *ℤ a +ℤ pos 2 *ℤ (a *ℤ b) +ℤ b *ℤ b
-square-of-sum a b = rw (split a, split b) (simp ℤ⊖ (omega arith))
-
-within : (a b : ℤ) (n : ℕ) → natAbs (a -ℤ b) ≤ n → a ≤ℤ (b +ℤ pos n)
-within a b n = rw (split a, split b) (simp ℤ⊖ (omega arith))

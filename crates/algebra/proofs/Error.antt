@@ -6,16 +6,15 @@
 -- another step write `nearV {s = E}`.) E must be a numeral or an `abbrev` of one.
 --
 -- Of a rounding nothing is used but `Half`, so every chain survives a change of the rule for exact halves.
-use mathlib.Core.Path.{_≡_, refl, ap, subst}
+use mathlib.Core.Path.{_≡_, ap, subst}
 use Prim.Native.Nat.{ℕ, suc, _+_, _*_, _/_, _≤_, _<_}
 use native.Mathlib.Nat.{le-trans, le-div-iff-mul-le, le-of-mul-le-mul-left, le-of-mul-le-mul-right, lt-mul-div-succ, lt-of-mul-lt-mul-left, mul-le-mul, mul-le-mul-left, mul-le-mul-right}
 use native.Mathlib.Omega.{arith}
-use lib.Dec.{lit<, lit≤}
-use lib.IntN.{ℤ, pos, negℤ, natAbs, _+ℤ_, _-ℤ_, _*ℤ_}
-use Rattle.algebra.specs.Fraction.{Fraction, Positive, Within, _≈_, divisor, whole, ratio, wholly, negᶠ, _+ᶠ_, _-ᶠ_, _*ᶠ_, _·ᶠ_, _/ᶠ_, _÷ᶠ_}
+use lib.IntN.{ℤ, pos, natAbs, _+ℤ_, _-ℤ_, _*ℤ_}
+use Rattle.algebra.specs.Fraction.{Fraction, Positive, _≈_, divisor, whole, ratio, wholly, _+ᶠ_, _-ᶠ_, _*ᶠ_, _·ᶠ_, _/ᶠ_, _÷ᶠ_}
 use Rattle.algebra.specs.Rounding.{Half}
 use Rattle.algebra.proofs.ErrorNeeds as Needs
-use Rattle.algebra.proofs.IntLaws.{abs-+, abs--, abs-neg, abs-*}
+use Rattle.algebra.proofs.IntLaws.{abs-+, abs--, abs-*}
 
 -- how far x is from s X, times X's denominator
 unfoldable pub miss : ℕ → ℤ → Fraction → ℤ
@@ -45,11 +44,6 @@ pub ratioV : (a : ℤ) (n : ℕ) → 0 < n → Val n a (ratio a n) 0 (natAbs a)
 unfolding ratio miss
 ratioV a n p =
     record { off = none (a *ℤ pos (divisor n) -ℤ pos n *ℤ a) _ (Needs.ratio-off a (divisor n) n (omega arith)); size = omega arith }
-
--- a whole number stands for itself
-pub exactV : (z : ℤ) → Val 1 z (whole z) 0 (natAbs z)
-unfolding whole miss
-exactV z = record { off = none (z *ℤ pos 1 -ℤ pos 1 *ℤ z) _ (Needs.ratio-off z 1 1 refl); size = omega arith }
 
 -- ---- sums and multiples
 
@@ -114,15 +108,6 @@ minusV {s} {x} {y} {X} {Y} {e} {f} v w =
       off = rw (miss-minus s x y X Y) (minus-bound (miss s x X) (miss s y Y) (X .den) (Y .den) e f (v .off) (w .off));
       size = omega (arith, abs-- x y, v .size, w .size);
     }
-
-miss-neg : (s : ℕ) (x : ℤ) (X : Fraction) → miss s (negℤ x) (negᶠ X) ≡ negℤ (miss s x X)
-unfolding miss negᶠ
-miss-neg s x X = Needs.neg-off x (X .num) (X .den) s
-
-pub negV : {s : ℕ} {x : ℤ} {X : Fraction} {e b : ℕ} → Val s x X e b → Val s (negℤ x) (negᶠ X) e b
-unfolding negᶠ
-negV {s} {x} {X} v =
-    record { off = rw (miss-neg s x X, abs-neg (miss s x X)) (v .off); size = rw (abs-neg x) (v .size) }
 
 miss-times : (s : ℕ) (c x : ℤ) (X : Fraction) → miss s (c *ℤ x) (c ·ᶠ X) ≡ c *ℤ miss s x X
 unfolding miss _·ᶠ_
@@ -397,44 +382,3 @@ trueV {b = b} s L c m D p low high small h l =
     ))
 
 -- ---- the end of a chain
-
-pub withinV : {x : ℤ} {X : Fraction} {e b : ℕ} (g : ℕ) → Val 1 x X e b → e ≤ 1000 * g → Within g x X
-unfolding miss
-withinV {x} {X} {e} g v h =
-    record { off = rw (Needs.one-off x (X .num) (X .den)) (omega (arith, v .off, mul-le-mul-right (X .den) h)) }
-
--- and back, where a result of one chain starts another
-pub startV : {g : ℕ} {x : ℤ} {X : Fraction} {b : ℕ} → Within g x X → natAbs x ≤ b → Val 1 x X (1000 * g) b
-unfolding miss
-startV {g} {x} {X} w h =
-    record { off = rw (← (Needs.one-off x (X .num) (X .den))) (omega (arith, w .off)); size = h }
-
--- ---- a worked example: the first steps of 01's permanent shift, for one component m of a mark of whole length L
-
--- 2^30
-abbrev E : ℕ
-E = 1073741824
-
-abbrev û : ℤ → (L : ℕ) → 0 < L → Fraction
-û m L p = whole m ÷ᶠ wholly L p
-
-abbrev P̂ : Fraction → Fraction
-P̂ u = (pos 3 ·ᶠ (u *ᶠ u) -ᶠ whole (pos 1)) /ᶠ 2
-
-module _
-    (m u s2 P : ℤ) (L : ℕ) (p : 0 < L) (inside : natAbs m ≤ L)
-    (u-near : Half (m *ℤ pos E) L u)
-    (s2-near : Half (u *ℤ u) E s2)
-    (P-near : Half (pos 3 *ℤ s2 -ℤ pos E) 2 P) where
-  u-is : Val E u (û m L p) 500 E
-  u-is = quotientV E L m p u-near (omega arith)
-
-  s2-is : Val E s2 (û m L p *ᶠ û m L p) 1501 (E + 1)
-  s2-is = nearV s2-near (lit< tt) (mulV u-is u-is)
-
-  P-is : Val E P (P̂ (û m L p)) 2752 (2 * E + 3)
-  P-is =
-      weakV
-      (nearV P-near (lit< tt) (overV 2 (lit< tt) (minusV (timesV (pos 3) s2-is) (constV E (pos 1)))))
-      (lit≤ tt)
-      (lit≤ tt)

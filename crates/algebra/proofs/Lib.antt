@@ -10,3 +10,4 @@ pub mod Turned
 pub mod ErrorNeeds
 pub mod Error
 pub mod SameValue
+pub mod Rearranged

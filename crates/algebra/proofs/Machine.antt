@@ -9,9 +9,9 @@ use mathlib.Core.Bool.{Bool, true, false}
 use Prim.Native.Nat.{ℕ, suc, _+_, _*_, _^_, _≤_, _<_}
 use native.Mathlib.Nat.{le-refl, lt-of-le-of-lt, mul-le-mul, not-suc-le-zero}
 use native.Mathlib.Omega.{arith}
-use lib.Dec.{T, lit<, ltb→lt}
+use lib.Dec.{T, ltb→lt}
 use lib.IntN.{ℤ, pos, negsuc, negℤ, natAbs, _+ℤ_, _-ℤ_, _*ℤ_, +ℤ-idl}
-use lib.Signed.{mag, nonNeg, leZ, ltZ, _≤ℤ_, _<ℤ_, ltZ-no}
+use lib.Signed.{mag, nonNeg, ltZ, _≤ℤ_, _<ℤ_, ltZ-no}
 use mir.Syntax.{w64}
 use mir.Val.{Fits, SFits, toZ, ofZ}
 use mir.Facts.{toZ-ofZ, toZ-pos}
@@ -117,18 +117,12 @@ lt-yes a b e = record { lt = subst⁻¹ T e tt }
 lt-no : (a b : ℤ) → ltZ a b ≡ false → b ≤ℤ a
 lt-no a b e = ltZ-no (subst⁻¹ (λ (t : Bool). T (mathlib.Core.Bool.not t)) e tt)
 
-le-yes : (a b : ℤ) → leZ a b ≡ true → a ≤ℤ b
-le-yes a b e = record { le = subst⁻¹ T e tt }
-
 -- a test of x against y, as a fact of the plain numbers
 pub less : {x y a b : ℤ} {n m : ℕ} → Va x a n → Va y b m → ltZ x y ≡ true → a <ℤ b
 less {x} {y} {a} {b} v w e = lt-yes a b (sym (ap₂ ltZ (v .told) (w .told)) ∙ e)
 
 pub notLess : {x y a b : ℤ} {n m : ℕ} → Va x a n → Va y b m → ltZ x y ≡ false → b ≤ℤ a
 notLess {x} {y} {a} {b} v w e = lt-no a b (sym (ap₂ ltZ (v .told) (w .told)) ∙ e)
-
-pub atMost : {x y a b : ℤ} {n m : ℕ} → Va x a n → Va y b m → leZ x y ≡ true → a ≤ℤ b
-atMost {x} {y} {a} {b} v w e = le-yes a b (sym (ap₂ leZ (v .told) (w .told)) ∙ e)
 
 -- ---- the sign, as `a < 0` tells it: a is -(k + 1) or k, with k below 2^63
 
@@ -149,12 +143,3 @@ negative (negsuc n) f t = record { k = n; is = refl; small = f .sfits }
 pub positive : (a : ℤ) → SFits w64 a → ltZ (toZ w64 (ofZ w64 a)) (pos 0) ≡ false → Positive a
 positive (pos n) f t = record { k = n; is = refl; small = f .sfits }
 positive (negsuc n) f t = absurd (notLess (given f (le-refl (suc n))) (lit 0) t .le)
-
--- ---- worked example: x * y + 1 of two parameters that are each at most 2^30 in size fits, and is that number
-
-module _ (x y : ℤ) (fx : SFits w64 x) (fy : SFits w64 y) (hx : natAbs x ≤ 2 ^ 30) (hy : natAbs y ≤ 2 ^ 30) where
-  product : Va (toZ w64 (ofZ w64 x) *ℤ toZ w64 (ofZ w64 y)) (x *ℤ y) (2 ^ 60)
-  product = v* (given fx hx) (given fy hy)
-
-  fits : SFits w64 (toZ w64 (ofZ w64 (toZ w64 (ofZ w64 x) *ℤ toZ w64 (ofZ w64 y))) +ℤ pos 1)
-  fits = fit (v+ (at product (lit< tt)) (lit 1)) (lit< tt)

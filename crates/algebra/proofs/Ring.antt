@@ -5,15 +5,15 @@
 -- either x *ℤ y or its factors. `search quote` reads the two sides as expressions over the atoms: it goes through +ℤ, -ℤ,
 -- *ℤ, negℤ, numerals, and sums, products and successors under `pos`. `tt` proves that the two have the same normal form.
 -- A refused `search` means an atom is missing (or the sum is long: `depth 60 fits 5000`), a refused `tt` that the identity
--- is false. Worked examples stand at the end. Small ones take under 0.05 s, the fourth power of a sum of six 0.3 s.
+-- is false. Small ones take under 0.05 s, the fourth power of a sum of six 0.3 s.
 use mathlib.Core.Path.{_≡_, refl, sym, _∙_, ap, ap₂}
-use mathlib.Core.List.{[], _∷_}
+use mathlib.Core.List.{_∷_}
 use mathlib.Core.Bool.{Bool}
 use Prim.Native.Nat.{ℕ, zero, suc, _+_, _*_}
 use native.Mathlib.Numerals.{add-one}
 use native.Mathlib.Omega.{arith}
 use lib.Dec.{T, leb}
-use lib.IntN.{ℤ, pos, negsuc, negℤ, natAbs, _+ℤ_, _-ℤ_, _*ℤ_}
+use lib.IntN.{ℤ, pos, negsuc, negℤ, _+ℤ_, _*ℤ_}
 use Rattle.algebra.proofs.Difference.{_⊖_, split, pos-⊖, negsuc-⊖, ℤ⊖}
 use Rattle.algebra.proofs.Polynomial.{Env, first, rest, Poly, con, more, value, add, neg, mul, none, value-add, value-neg, value-mul, value-none}
 
@@ -182,34 +182,3 @@ agree s = same (s .left .expr) (s .right .expr)
 
 pub by-ring : {x y : ℤ} (ρ : Env) (s : Sides ρ x y) → T (agree s) → x ≡ y
 by-ring ρ s t = sym (s .left .is) ∙ ring ρ (s .left .expr) (s .right .expr) t ∙ s .right .is
-
--- ---- worked examples: copy one line
-
-cube :
-    (a b : ℤ)
-    → (a +ℤ b) *ℤ (a +ℤ b) *ℤ (a +ℤ b)
-    ≡ a *ℤ a *ℤ a +ℤ pos 3 *ℤ (a *ℤ a *ℤ b) +ℤ pos 3 *ℤ (a *ℤ b *ℤ b) +ℤ b *ℤ b *ℤ b
-cube a b = by-ring (a ∷ b ∷ []) (search quote depth 30) tt
-
-squares : (a b : ℤ) → (a -ℤ b) *ℤ (a +ℤ b) ≡ a *ℤ a -ℤ b *ℤ b
-squares a b = by-ring (a ∷ b ∷ []) (search quote depth 30) tt
-
-heron :
-    (a b c : ℤ)
-    → (a +ℤ b +ℤ c) *ℤ (a +ℤ b -ℤ c) *ℤ (a -ℤ b +ℤ c) *ℤ (b +ℤ c -ℤ a)
-    ≡ pos 2 *ℤ (a *ℤ a *ℤ b *ℤ b +ℤ b *ℤ b *ℤ c *ℤ c +ℤ c *ℤ c *ℤ a *ℤ a)
-    -ℤ (a *ℤ a *ℤ a *ℤ a +ℤ b *ℤ b *ℤ b *ℤ b +ℤ c *ℤ c *ℤ c *ℤ c)
-heron a b c = by-ring (a ∷ b ∷ c ∷ []) (search quote depth 30) tt
-
-brahmagupta :
-    (a b c d : ℤ)
-    → (a *ℤ a +ℤ b *ℤ b) *ℤ (c *ℤ c +ℤ d *ℤ d)
-    ≡ (a *ℤ c -ℤ b *ℤ d) *ℤ (a *ℤ c -ℤ b *ℤ d) +ℤ (a *ℤ d +ℤ b *ℤ c) *ℤ (a *ℤ d +ℤ b *ℤ c)
-brahmagupta a b c d = by-ring (a ∷ b ∷ c ∷ d ∷ []) (search quote depth 30) tt
-
--- atoms that are no variables, numerals and naturals
-mixed :
-    (f : ℕ → ℤ) (z : ℤ) (m n : ℕ)
-    → (f m +ℤ pos (natAbs z)) *ℤ (pos (n * suc m) -ℤ pos 7)
-    ≡ f m *ℤ pos n +ℤ pos (natAbs z * n) +ℤ pos (n * m) *ℤ (f m +ℤ pos (natAbs z)) -ℤ pos 7 *ℤ (f m +ℤ pos (natAbs z))
-mixed f z m n = by-ring (f m ∷ pos (natAbs z) ∷ pos m ∷ pos n ∷ []) (search quote depth 30) tt

@@ -3,11 +3,11 @@ use mathlib.Core.Path.{_≡_, refl, sym, ap, _∙_}
 use Prim.Native.Nat.{ℕ, _*_, _≤_, _<_}
 use native.Mathlib.Nat.{mul-le-mul-right, le-of-mul-le-mul-right}
 use native.Mathlib.Omega.{arith}
-use lib.IntN.{ℤ, pos, negℤ, natAbs, _+ℤ_, _-ℤ_, _*ℤ_}
-use Rattle.algebra.specs.Fraction.{Fraction, Positive, Within, _≈_, divisor, ratio, wholly, negᶠ, _+ᶠ_, _-ᶠ_, _*ᶠ_, _·ᶠ_, _/ᶠ_, _÷ᶠ_}
+use lib.IntN.{ℤ, pos, natAbs, _+ℤ_, _*ℤ_}
+use Rattle.algebra.specs.Fraction.{Fraction, Positive, _≈_, _+ᶠ_, _*ᶠ_, _÷ᶠ_}
 use Rattle.algebra.proofs.Difference.{split, ℤ⊖}
 use Rattle.algebra.proofs.IntLaws.{abs-*}
-use Rattle.algebra.proofs.ErrorNeeds.{apart, cancel, same-off, one-off}
+use Rattle.algebra.proofs.ErrorNeeds.{apart, cancel}
 
 -- ---- an equivalence
 
@@ -41,16 +41,6 @@ within-bound u v D C g p i h =
     (omega (arith, abs-* v (pos D), ap natAbs i, abs-* u (pos C), mul-le-mul-right C h))
     p
 
-pub within-≈ : {g : ℕ} {z : ℤ} {X Y : Fraction} → X ≈ Y → Within g z X → Within g z Y
-within-≈ {g} {z} {X} {Y} p w =
-    record {
-      off =
-          rw (one-off z (Y .num) (Y .den))
-          (within-bound (z *ℤ pos (X .den) -ℤ pos 1 *ℤ X .num) (z *ℤ pos (Y .den) -ℤ pos 1 *ℤ Y .num) (X .den) (Y .den) g
-          (X .den-pos) (same-off z (X .num) (Y .num) (X .den) (Y .den) 1 (p .cross))
-          (rw (← (one-off z (X .num) (X .den))) (w .off)));
-    }
-
 -- ---- the operations keep the value
 
 plus-cross :
@@ -74,28 +64,6 @@ plus-≈ {X} {Y} {X′} {Y′} p q =
           ∙ plus-cross′ (X′ .num) (Y′ .num) (X .den) (Y .den) (X′ .den) (Y′ .den);
     }
 
-neg-cross : (N : ℤ) (D : ℕ) → negℤ N *ℤ pos D ≡ negℤ (N *ℤ pos D)
-neg-cross N D = rw (split N) (simp ℤ⊖ (omega arith))
-
-pub neg-≈ : {X Y : Fraction} → X ≈ Y → negᶠ X ≈ negᶠ Y
-unfolding negᶠ
-neg-≈ {X} {Y} p =
-    record
-    { cross = neg-cross (X .num) (Y .den) ∙ ap negℤ (p .cross) ∙ sym (neg-cross (Y .num) (X .den)) }
-
--- a difference is the sum with the negative
-pub minus-is : (X Y : Fraction) → X -ᶠ Y ≈ X +ᶠ negᶠ Y
-unfolding _+ᶠ_ _-ᶠ_ negᶠ
-minus-is X Y =
-    record {
-      cross =
-          ap (λ (z : ℤ). (X .num *ℤ pos (Y .den) +ℤ z) *ℤ pos (X .den * Y .den)) (sym (neg-cross (Y .num) (X .den)));
-    }
-
-pub minus-≈ : {X Y X′ Y′ : Fraction} → X ≈ X′ → Y ≈ Y′ → X -ᶠ Y ≈ X′ -ᶠ Y′
-minus-≈ {X} {Y} {X′} {Y′} p q =
-    ≈-trans (minus-is X Y) (≈-trans (plus-≈ p (neg-≈ q)) (≈-sym (minus-is X′ Y′)))
-
 pub mul-≈ : {X Y X′ Y′ : Fraction} → X ≈ X′ → Y ≈ Y′ → X *ᶠ Y ≈ X′ *ᶠ Y′
 unfolding _*ᶠ_
 mul-≈ {X} {Y} {X′} {Y′} p q =
@@ -105,32 +73,6 @@ mul-≈ {X} {Y} {X′} {Y′} p q =
           ∙ ap (λ (z : ℤ). z *ℤ (Y .num *ℤ pos (Y′ .den))) (p .cross)
           ∙ ap (λ (z : ℤ). X′ .num *ℤ pos (X .den) *ℤ z) (q .cross)
           ∙ sym (apart (X′ .num) (Y′ .num) (X .den) (Y .den));
-    }
-
-times-cross : (c N : ℤ) (D : ℕ) → c *ℤ N *ℤ pos D ≡ c *ℤ (N *ℤ pos D)
-times-cross c N D = rw (split c, split N) (simp ℤ⊖ (omega arith))
-
-pub times-≈ : {X Y : Fraction} (c : ℤ) → X ≈ Y → c ·ᶠ X ≈ c ·ᶠ Y
-unfolding _·ᶠ_
-times-≈ {X} {Y} c p =
-    record {
-      cross =
-          times-cross c (X .num) (Y .den)
-          ∙ ap (λ (z : ℤ). c *ℤ z) (p .cross)
-          ∙ sym (times-cross c (Y .num) (X .den));
-    }
-
-over-cross : (N : ℤ) (D n : ℕ) → N *ℤ pos (D * n) ≡ N *ℤ pos D *ℤ pos n
-over-cross N D n = rw (split N) (simp ℤ⊖ (omega arith))
-
-pub over-≈ : {X Y : Fraction} (n : ℕ) → X ≈ Y → X /ᶠ n ≈ Y /ᶠ n
-unfolding _/ᶠ_
-over-≈ {X} {Y} n p =
-    record {
-      cross =
-          over-cross (X .num) (Y .den) (divisor n)
-          ∙ ap (λ (z : ℤ). z *ℤ pos (divisor n)) (p .cross)
-          ∙ sym (over-cross (Y .num) (X .den) (divisor n));
     }
 
 by-cross : (N : ℤ) (D t b : ℕ) → N *ℤ pos b *ℤ pos (D * t) ≡ N *ℤ pos D *ℤ pos (b * t)
@@ -147,19 +89,3 @@ by-≈ {X} {Y} D p =
     }
 
 -- ---- forms of one value
-
-wholly-cross : (N : ℤ) (D d n : ℕ) → d ≡ n → N *ℤ pos (D * n) ≡ N *ℤ pos 1 *ℤ pos (D * d)
-wholly-cross N D d n e = rw (e, split N) (simp ℤ⊖ (omega arith))
-
--- a whole distance divides as a natural does
-pub over-wholly : (X : Fraction) (n : ℕ) (p : 0 < n) → X /ᶠ n ≈ X ÷ᶠ wholly n p
-unfolding _/ᶠ_ _÷ᶠ_ wholly
-over-wholly X n p = record { cross = wholly-cross (X .num) (X .den) (divisor n) n (omega arith) }
-
-ratio-cross : (c N : ℤ) (D n : ℕ) → c *ℤ N *ℤ pos (D * n) ≡ c *ℤ N *ℤ pos (n * D)
-ratio-cross c N D n = rw (split c, split N) (simp ℤ⊖ (omega arith))
-
--- c/n of X, as 01's steps take it: c times X, over n
-pub ratio-of : (c : ℤ) (n : ℕ) (X : Fraction) → (c ·ᶠ X) /ᶠ n ≈ ratio c n *ᶠ X
-unfolding _·ᶠ_ _/ᶠ_ ratio _*ᶠ_
-ratio-of c n X = record { cross = sym (ratio-cross c (X .num) (X .den) (divisor n)) }

@@ -44,6 +44,16 @@ ratio a n = record { num = a; den = divisor n; den-pos = divisor-pos n }
 unfoldable pub wholly : (n : ℕ) → 0 < n → Positive
 wholly n p = record { top = n; bottom = 1; top-pos = p; bottom-pos = lit< tt }
 
+-- n times a positive fraction, for a positive n
+abbrev pub timesᵖ : ℕ → Positive → Positive
+timesᵖ n D =
+    record {
+      top = divisor n * D .top;
+      bottom = D .bottom;
+      top-pos = mul-pos (divisor-pos n) (D .top-pos);
+      bottom-pos = D .bottom-pos;
+    }
+
 unfoldable pub _+ᶠ_ : Fraction → Fraction → Fraction
 X +ᶠ Y =
     record {

@@ -8,8 +8,7 @@ use borrow.Author.Tests.{leb-true, le-leb, eqb-true, eq-eqb, not-false}
 use lib.Dec.{T, leb, eqb, lit<, lit≤}
 use lib.IntN.{ℤ, pos, negsuc, natAbs, _+ℤ_, _-ℤ_, _*ℤ_}
 use Rattle.algebra.proofs.BoolLaws.{holds, passes, both}
-use Rattle.algebra.proofs.Difference.{split, ℤ⊖}
-use Rattle.algebra.proofs.IntLaws.{abs-*}
+use Rattle.algebra.proofs.IntLaws.{apart, abs-*}
 use Rattle.algebra.proofs.Machine.{plain, lit, v+, v-, v*}
 use Rattle.number.specs.Near.{near}
 use Rattle.number.proofs.NearLaws.{near-bound}
@@ -54,9 +53,6 @@ sized-within n v t = sized-is n v (holds (sized n v) t)
 
 pub within-sized : {n : ℕ} {v : Vec3} → Within n v → T (sized n v)
 within-sized {n} {v} w = passes (is-sized n v w)
-
-pub sized-wider : (n k : ℕ) (v : Vec3) → n ≤ k → T (sized n v) → T (sized k v)
-sized-wider n k v h t = within-sized (widen (sized-within n v t) h)
 
 -- the same of a vector under another name
 pub sized-as : {k n : ℕ} {v w : Vec3} → v ≡ w → Within k w → k ≤ n → T (sized n v)
@@ -137,9 +133,6 @@ pub valid-passed : (c : Card) → Valid c → Passed c
 valid-passed c v = passed c (valid-number c v)
 
 -- ---- how large its numbers are
-
-apart : (w a : ℤ) → natAbs w ≤ natAbs (w -ℤ a) + natAbs a
-apart w a = rw (split w, split a) (simp ℤ⊖ (omega arith))
 
 -- a position within 1,000 m of a mark
 near-mark : (m p : ℤ) → natAbs (p -ℤ pos 1461000000 *ℤ m) ≤ 1461000000000 → natAbs m ≤ 6400000 → natAbs p ≤ 9351861000000000

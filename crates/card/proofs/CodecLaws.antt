@@ -21,7 +21,7 @@ use Rattle.card.specs.Checks.{tideFits, checks, cardNumber}
 use Rattle.card.specs.Layout.{Fields, run, three, vectorAt, head, spliced, headed}
 use Rattle.card.specs.Codec.{cardFields, encode, decode, readNumber, readCard, writeNumber, written}
 use Rattle.card.proofs.LayoutLaws.{widths, length-run, length-head, splice-run, splice-three, splice-head}
-use Rattle.card.proofs.RunLaws.{fieldsAt, Ranged, HeadOf, signed-size, ranged-three, bytes-append, bytes-run, bytes-head, read-run, write-run, read-head, write-head}
+use Rattle.card.proofs.RunLaws.{fieldsAt, Ranged, HeadOf, signed-size, ranged-three, read-run, write-run, read-head, write-head}
 use Rattle.card.proofs.CheckLaws.{Passed, passed, epoch-small, velocity-small, vector-small}
 use Rattle.card.proofs.ValidLaws.{past-length, of-length, site-nine, position-size}
 
@@ -161,13 +161,6 @@ read-accepted s e =
     let q : z ≡ true = and-left z (tideFits (d .tide) (d .solid)) (not-false (z && tideFits (d .tide) (d .solid)) (none 2 (lit< tt))) in
     record { long = r .0; zeros = eqb-true (getD s 11 0) 0 q; card = ap (λ (b : Bool). first (checks b d)) (sym q) ∙ r .1 }
 
--- an accepted read, written again, gives the same bytes
-pub encode-read : (s : List ℕ) → Bytes s → readNumber s ≡ 0 → encode (readCard s .card) ≡ s
-unfolding readCard
-encode-read s b e =
-    let a : Accepted s = read-accepted s e in
-    rw e (encode-decode s (a .long) b (a .zeros))
-
 -- ---- the same of the two calls
 
 pub write-accepted : (c : Card) (n : ℕ) → writeNumber c n ≡ 0 → (n ≡ 88) × (cardNumber c ≡ 0)
@@ -189,9 +182,3 @@ unfolding written readCard
 written-read s out b e l =
     let a : Accepted s = read-accepted s e in
     rw (e, write-accepts (decode s) (length out) l (a .card)) (encode-decode s (a .long) b (a .zeros))
-
--- what is written are bytes
-pub bytes-encode : (c : Card) → Bytes (c .site) → c .frame < 256 → c .tide < 256 → Bytes (encode c)
-unfolding encode
-bytes-encode c s f t =
-    bytes-append (head (c .site) (c .frame) (c .tide)) (run (cardFields c)) (bytes-head (c .site) (c .frame) (c .tide) s f t) (bytes-run (cardFields c))

@@ -242,14 +242,6 @@ field-expanded s b e =
     let a : Accepted s = field-accepted s e in
     field-packed (expandedOf (openedOf s)) ∙ ap packed (taken-expanded (openedOf s)) ∙ packed-opened s (a .long) b (a .zeros)
 
--- and so of a card that was exported once
-pub field-again : (c : Card) → cardNumber c ≡ 0 → fieldOf (expandedOf (openedOf (fieldOf c))) ≡ fieldOf c
-field-again c e =
-    ap (λ (f : Opened). fieldOf (expandedOf f)) (opened-field c e)
-    ∙ field-packed (expandedOf (taken c))
-    ∙ ap packed (taken-expanded (taken c))
-    ∙ sym (field-packed c)
-
 -- ---- the same of the two calls
 
 -- the card's own checks and no solid tide

@@ -12,4 +12,3 @@ pub mod StepLaws
 pub mod AnswerLaws
 pub mod BytesLaws
 pub mod CallLaws
-pub mod Cases

@@ -2,10 +2,10 @@
 use mathlib.Core.Path.{_≡_, refl, sym, ap, ap₂, _∙_}
 use mathlib.Core.Bool.{Bool, true, _&&_}
 use mathlib.Core.List.{List, [], _∷_, _++_}
-use Prim.Native.Nat.{ℕ, _+_, _<_}
+use Prim.Native.Nat.{ℕ, _+_}
 use native.Mathlib.Omega.{arith}
 use borrow.Author.Tests.{eq-eqb, eqb-true}
-use lib.Dec.{eqb, lit<}
+use lib.Dec.{eqb}
 use lib.ListN.{length, getD, take, drop, length-append, length-drop, take-append-drop}
 use lib.Seq.{take-all, take-add, drop-cons, drop-drop, getD-drop}
 use lib.IntN.{ℤ, pos}
@@ -18,7 +18,7 @@ use Rattle.card.specs.declared.steps.Opened.{Opened}
 use Rattle.card.specs.Layout.{Fields, run, three, vectorAt, head, spliced, headed}
 use Rattle.card.specs.Field.{offsetOf, speedOf, fieldOf, openedOf, zeroBytes}
 use Rattle.card.proofs.LayoutLaws.{length-run, length-head, splice-run, splice-three, splice-head}
-use Rattle.card.proofs.RunLaws.{fieldsAt, Ranged, bytes-append, bytes-zero, bytes-run, bytes-head, HeadOf, read-run, read-past, write-run, read-head, write-head}
+use Rattle.card.proofs.RunLaws.{fieldsAt, Ranged, HeadOf, read-run, read-past, write-run, read-head, write-head}
 
 abbrev pub openedFields : Opened → Fields
 openedFields f = (4, f .epoch) ∷ three 4 (f .mark) (three 4 (f .offset) (three 2 (f .speed) []))
@@ -149,11 +149,3 @@ packed-opened s l b z =
     ∙ sym (take-add 34 2 (drop 12 s))
     ∙ take-all 36 (drop 12 s) (simp length-drop (omega arith)))
     ∙ take-append-drop 12 s
-
--- what is packed are bytes
-pub bytes-packed : (f : Opened) → Bytes (f .site) → f .frame < 256 → f .tide < 256 → Bytes (packed f)
-unfolding packed
-bytes-packed f s p q =
-    bytes-append (head (f .site) (f .frame) (f .tide)) (run (openedFields f) ++ ends)
-    (bytes-head (f .site) (f .frame) (f .tide) s p q)
-    (bytes-append (run (openedFields f)) ends (bytes-run (openedFields f)) (bytes-zero (0 ∷ []) (bytes-zero [] (λ i. lit< tt))))

@@ -15,11 +15,10 @@ use Rattle.mark.specs.Mark.{nowhere}
 use Rattle.mark.specs.Tide.{plus}
 use Rattle.card.specs.declared.Card.{Card}
 use Rattle.card.specs.declared.Answer.{Answer}
-use Rattle.card.specs.declared.steps.Opened.{Opened}
-use Rattle.card.specs.Checks.{metre, minus, scaled, fromMark, cardNumber}
-use Rattle.card.specs.Field.{roundedBy, offsetOf, speedOf, fieldOf, openedOf, expandedOf, expandCard, exportNumber, exported}
+use Rattle.card.specs.Checks.{metre, minus, scaled, fromMark}
+use Rattle.card.specs.Field.{roundedBy, offsetOf, speedOf, expandedOf, expandCard, exportNumber, exported}
 use Rattle.card.proofs.PackLaws.{taken}
-use Rattle.card.proofs.FieldLaws.{opened-field, expand-exported}
+use Rattle.card.proofs.FieldLaws.{expand-exported}
 
 -- three numbers differ by at most n each
 pub record Close (n : ℕ) (v w : Vec3) : Type 0 where
@@ -80,9 +79,6 @@ returned-taken c =
       position = position-taken c;
       velocity = velocity-taken c;
     }
-
-pub returned : (c : Card) → cardNumber c ≡ 0 → Returned c (expandedOf (openedOf (fieldOf c)))
-returned c e = subst (λ (f : Opened). Returned c (expandedOf f)) (sym (opened-field c e)) (returned-taken c)
 
 -- `export`, then `expand`
 pub returned-call : (c : Card) (out : List ℕ) → exportNumber c (length out) ≡ 0 → Returned c (expandCard (exported c out) .card)

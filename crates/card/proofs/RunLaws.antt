@@ -2,16 +2,15 @@
 -- record, over its list of widths.
 use mathlib.Core.Path.{_≡_, refl, sym, ap, ap₂, _∙_, subst}
 use mathlib.Core.List.{List, [], _∷_, _++_, append-assoc}
-use Prim.Native.Nat.{ℕ, zero, suc, _+_, _*_, _^_, _≤_, _<_}
+use Prim.Native.Nat.{ℕ, _+_, _*_, _^_, _≤_, _<_}
 use native.Mathlib.Nat.{zero-add, add-zero}
 use native.Mathlib.Omega.{arith}
-use lib.Dec.{lit<}
 use lib.ListN.{length, getD, take, drop, List·getD-append}
 use lib.Seq.{drop-cons, drop-at, take-at, take-add, drop-drop, getD-drop, getD-append-add}
 use lib.IntN.{ℤ, pos, negsuc, natAbs}
 use lib.Signed.{mag}
 use Rattle.octets.specs.Octets.{bytesOf, signedOf, signedAt}
-use Rattle.octets.proofs.OctetLaws.{Bytes, Signed, unsigned-same, length-bytes, bytes-below, signed-bytes, bytes-signed}
+use Rattle.octets.proofs.OctetLaws.{Bytes, Signed, unsigned-same, length-bytes, signed-bytes, bytes-signed}
 use Rattle.mark.specs.declared.Vec3.{Vec3}
 use Rattle.mark.specs.Ranges.{Within}
 use Rattle.card.specs.Layout.{Fields, run, three, head}
@@ -121,31 +120,3 @@ write-head s h z =
     ∙ ap (λ (t : List ℕ). getD s 9 0 ∷ t) (drop-cons s 10 0 (omega arith))
     ∙ ap (λ (t : List ℕ). getD s 9 0 ∷ getD s 10 0 ∷ t) (drop-cons s 11 0 (omega arith))))
     ∙ sym (take-add 9 3 s)
-
--- ---- all are bytes
-
-pub bytes-append : (a b : List ℕ) → Bytes a → Bytes b → Bytes (a ++ b)
-bytes-append [] b p q i = q i
-bytes-append (x ∷ a) b p q zero = p zero
-bytes-append (x ∷ a) b p q (suc i) = bytes-append a b (λ i. p (suc i)) q i
-
-bytes-none : Bytes []
-bytes-none i = lit< tt
-
-bytes-cons : (x : ℕ) (a : List ℕ) → x < 256 → Bytes a → Bytes (x ∷ a)
-bytes-cons x a h p zero = h
-bytes-cons x a h p (suc i) = p i
-
-pub bytes-run : (fs : Fields) → Bytes (run fs)
-unfolding run
-bytes-run [] = bytes-none
-bytes-run (f ∷ rest) = bytes-append (bytesOf (f .0) (f .1)) (run rest) (bytes-below (f .0) (f .1)) (bytes-run rest)
-
-pub bytes-zero : (a : List ℕ) → Bytes a → Bytes (0 ∷ a)
-bytes-zero a p = bytes-cons 0 a (lit< tt) p
-
-pub bytes-head : (site : List ℕ) (frame tide : ℕ) → Bytes site → frame < 256 → tide < 256 → Bytes (head site frame tide)
-unfolding head
-bytes-head site frame tide p f t =
-    bytes-append site (frame ∷ tide ∷ 0 ∷ []) p
-    (bytes-cons frame (tide ∷ 0 ∷ []) f (bytes-cons tide (0 ∷ []) t (bytes-zero [] bytes-none)))

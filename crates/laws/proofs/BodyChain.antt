@@ -15,7 +15,7 @@ use Rattle.mark.specs.Tide.{strength, cosine, height, upward, sideways, compone
 use Rattle.laws.specs.Formulas.{Vector, metre, dot, P2, h2, l2, degreeTwo}
 use Rattle.laws.proofs.ErrorTables.{BodyErrors}
 use Rattle.laws.proofs.StepValues.{Stands, times-half, height-is}
-use Rattle.laws.proofs.Rearranged.{part-same}
+use Rattle.algebra.proofs.Rearranged.{part-same}
 
 -- each component of v stands for metres, off by at most e/1000 of a grain
 pub record Metres (e : ℕ) (v : Vec3) (w : Vector) : Type 0 where

@@ -2,7 +2,6 @@
 pub mod Distances
 pub mod ErrorTables
 pub mod StepValues
-pub mod Rearranged
 pub mod NorthLaws
 pub mod PermanentBound
 pub mod BodyChain

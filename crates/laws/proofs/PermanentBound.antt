@@ -19,7 +19,7 @@ use Rattle.laws.specs.Formulas.{bound, Vector, Close, metre, direction, 
 use Rattle.laws.proofs.Distances.{mark-positive}
 use Rattle.laws.proofs.ErrorTables.{PermanentErrors, whole-permanent}
 use Rattle.laws.proofs.StepValues.{Stands, times-half, square-is, height-is, grains-is, whole-stands}
-use Rattle.laws.proofs.Rearranged.{across-same, along-same}
+use Rattle.algebra.proofs.Rearranged.{across-same, along-same}
 
 -- ---- the paper's constants
 

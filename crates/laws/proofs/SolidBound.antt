@@ -8,7 +8,7 @@ use Prim.Native.Nat.{ℕ, _+_, _*_, _≤_, _<_}
 use native.Mathlib.Omega.{arith}
 use lib.Dec.{T, lit<, lit≤}
 use lib.IntN.{pos, natAbs, _*ℤ_}
-use Rattle.algebra.specs.Fraction.{Positive, whole, ratio, wholly, _*ᶠ_, _÷ᶠ_}
+use Rattle.algebra.specs.Fraction.{Fraction, Positive, _≈_, whole, ratio, wholly, _*ᶠ_, _÷ᶠ_}
 use Rattle.algebra.proofs.Error.{Val, miss, quotientV, plusV}
 use Rattle.number.proofs.NearLaws.{near-half}
 use Rattle.mark.specs.declared.Vec3.{Vec3}
@@ -24,7 +24,7 @@ use Rattle.laws.specs.Formulas.{bound, Vector, _+ᵛ_, Close, Puller, me
 use Rattle.laws.proofs.Distances.{mark-far, mark-positive, moon-positive, sun-positive}
 use Rattle.laws.proofs.ErrorTables.{BodyErrors, whole-body}
 use Rattle.laws.proofs.StepValues.{Stands, grains-is, whole-stands}
-use Rattle.laws.proofs.Rearranged.{strength-same}
+use Rattle.algebra.proofs.Rearranged.{cubes-same}
 use Rattle.laws.proofs.BodyChain.{Metres, part-is}
 
 -- ---- one body
@@ -68,6 +68,13 @@ pub record Placed (d q : ℕ) (k : Kind) (v : Vec3) (R : Positive) : Type 0 wher
   pub towards : Stands d (units (lengthOf v) v) (direction v R)
   pub nearness-is : Val E (nearness (k .r0) (lengthOf v)) (whole (pos (k .r0)) ÷ᶠ R) q 1179275307
   pub reached : k .low ≤ lengthOf v
+
+-- K at the reference distance times (R0/R)³ is K at R
+strength-same :
+    (n r0 : ℕ) (p : 0 < r0) (R : Positive) (gm : Fraction)
+    → strengthAt gm (inMetres n (wholly r0 p)) *ᶠ (whole (pos r0) ÷ᶠ R *ᶠ (whole (pos r0) ÷ᶠ R) *ᶠ (whole (pos r0) ÷ᶠ R)) ≈ strengthAt gm (inMetres n R)
+unfolding strengthAt
+strength-same n r0 p R gm = cubes-same n r0 p R (gm *ᶠ (Re *ᶠ Re *ᶠ Re *ᶠ Re))
 
 pub body-chain :
     {nu nd nq : ℕ} {k : Kind} {b : Puller} (table : BodyErrors nu nd nq) (known : Known k b) (u : Vec3) (r : Vector) (v : Vec3) (R : Positive)

@@ -3,9 +3,8 @@
 -- Nothing is rounded here. The mark and the body vectors are whole numbers; the distances are any positive fractions, so that the whole
 -- distances of 01 are one choice and the real ones another. Displacements are in metres, and `grains` of them in grains.
 use Prim.Native.Nat.{ℕ, _*_, _^_}
-use native.Mathlib.Nat.{mul-pos}
 use lib.IntN.{pos, negℤ}
-use Rattle.algebra.specs.Fraction.{Fraction, Positive, Within, divisor, divisor-pos, whole, ratio, _+ᶠ_, _-ᶠ_, _*ᶠ_, _·ᶠ_, _/ᶠ_, _÷ᶠ_}
+use Rattle.algebra.specs.Fraction.{Fraction, Positive, Within, timesᵖ, whole, ratio, _+ᶠ_, _-ᶠ_, _*ᶠ_, _·ᶠ_, _/ᶠ_, _÷ᶠ_}
 use Rattle.mark.specs.declared.Vec3.{Vec3}
 pub use Rattle.mark.specs.Mark.{metre}
 
@@ -109,13 +108,7 @@ theSun = record { gm = ratio (pos (132712442099 * 10 ^ 9)) 398600441800000; unit
 
 -- a distance in metres, from one in units of n metres
 abbrev pub inMetres : ℕ → Positive → Positive
-inMetres n R =
-    record {
-      top = divisor n * R .top;
-      bottom = R .bottom;
-      top-pos = mul-pos (divisor-pos n) (R .top-pos);
-      bottom-pos = R .bottom-pos;
-    }
+inMetres n R = timesᵖ n R
 
 -- K = (GM ratio) Re⁴/R³, metres, at R metres
 unfoldable pub strengthAt : Fraction → Positive → Fraction

@@ -18,10 +18,3 @@ moon-k0 = refl
 pub sun-k0 : near (pos (132712442099 * 10 ^ 9 * 63781366 ^ 4 * metre)) (398600441800000 * 10 ^ 4 * (149597870 * 1000) ^ 3) ≡ pos (sun .k0)
 unfolding near nearest
 sun-k0 = refl
-
--- and R0: the Moon's in metres, the Sun's in kilometres
-pub moon-r0 : moon .r0 ≡ 384400000
-moon-r0 = refl
-
-pub sun-r0 : sun .r0 ≡ 149597870
-sun-r0 = refl

@@ -8,8 +8,7 @@ use Prim.Native.Nat.{ℕ, suc, _+_, _*_, _≤_, _<_}
 use native.Mathlib.Nat.{le-refl, le-trans, mul-le-mul, lt-of-not-le, le-of-suc-le-suc}
 use native.Mathlib.Omega.{arith}
 use lib.IntN.{ℤ, pos, natAbs, _+ℤ_, _-ℤ_, _*ℤ_}
-use Rattle.algebra.proofs.Difference.{split, ℤ⊖}
-use Rattle.algebra.proofs.IntLaws.{abs-+, abs-*, square}
+use Rattle.algebra.proofs.IntLaws.{apart, abs-+, abs-*, square}
 use Rattle.algebra.proofs.Machine.{plain, lit, v*}
 use Rattle.algebra.proofs.Ring.{quote}
 use Rattle.algebra.proofs.Certificate.{slackℕ, natural, _⊞_, _⊠_, _⊡_, poly≤ℕ}
@@ -50,9 +49,6 @@ direction-within l v e =
     }
 
 -- ---- the sum of the squares
-
-apart : (w a : ℤ) → natAbs w ≤ natAbs (w -ℤ a) + natAbs a
-apart w a = rw (split w, split a) (simp ℤ⊖ (omega arith))
 
 -- what `near` says of sizes: off by at most a half
 pub near-size : (a : ℤ) (b : ℕ) → 0 < b → 2 * (b * natAbs (near a b)) ≤ 2 * natAbs a + b

@@ -9,4 +9,3 @@ pub mod BodyLaws
 pub mod TideLaws
 pub mod SeriesLaws
 pub mod Constants
-pub mod Cases

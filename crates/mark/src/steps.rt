@@ -441,13 +441,15 @@ pub fn fill(u: Vec3, bodies: &[f64], rows: usize, out: &mut [i64])
 {
     let mut i = 0usize;
     while i < rows {
-        let t = pair_tide(u, body_at(bodies, 6 * i), body_at(bodies, 6 * i + 3));
+        let at = 3 * i;
+        let from = 6 * i;
+        let t = pair_tide(u, body_at(bodies, from), body_at(bodies, from + 3));
         let x = t.shift.x;
         let y = t.shift.y;
         let z = t.shift.z;
-        out[3 * i] = x;
-        out[3 * i + 1] = y;
-        out[3 * i + 2] = z;
+        out[at] = x;
+        out[at + 1] = y;
+        out[at + 2] = z;
         i += 1;
     }
 }

@@ -3,4 +3,3 @@ pub mod NearLaws
 pub mod RootLaws
 pub mod NewtonLaws
 pub mod WholeLaws
-pub mod Cases

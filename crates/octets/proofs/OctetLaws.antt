@@ -2,18 +2,13 @@
 -- All are over the width n, for lists of bytes of any length.
 use mathlib.Core.Path.{_≡_, sym, ap, _∙_}
 use mathlib.Core.List.{List}
-use Prim.Native.Nat.{ℕ, _+_, _*_, _^_, _≤_}
+use Prim.Native.Nat.{ℕ, _+_, _≤_}
 use native.Mathlib.Nat.{mod-eq-of-lt, zero-add}
 use native.Mathlib.Omega.{arith}
-use lib.IntN.{ℤ, pos, negsuc, negℤ}
-use lib.Signed.{_≤ℤ_, _<ℤ_}
+use lib.IntN.{ℤ}
 use lib.ListN.{length, getD, take, drop}
-use lib.Ieee.{ofBits, binary64}
-use mir.Syntax.{w64}
-use mir.Val.{SFits}
-use Rattle.algebra.proofs.Difference.{ℤ⊖}
-use Rattle.octets.specs.Octets.{unsignedAt, signedOf, signedAt, doubleAt, digitsOf, residue, bytesOf, splice}
-use Rattle.octets.proofs.DigitLaws.{length-digits, digits-bytes, digits-value, digits-unsigned}
+use Rattle.octets.specs.Octets.{unsignedAt, signedOf, signedAt, digitsOf, residue, bytesOf, splice}
+use Rattle.octets.proofs.DigitLaws.{length-digits, digits-value, digits-unsigned}
 pub use Rattle.octets.proofs.ReadLaws.{Bytes, Signed, unsigned-lt, unsigned-same, unsigned-one, signed-in, residue-lt, residue-signed, signed-residue}
 pub use Rattle.octets.proofs.SpliceLaws.{Apart, length-splice, splice-is, splice-all, splice-append, part-splice, splice-part, getD-apart, getD-splice, bytes-splice}
 
@@ -23,10 +18,6 @@ pub length-bytes : (n : ℕ) (z : ℤ) → length (bytesOf n z) ≡ n
 unfolding bytesOf
 length-bytes n z = length-digits n (residue n z)
 
-pub bytes-below : (n : ℕ) (z : ℤ) → Bytes (bytesOf n z)
-unfolding bytesOf
-bytes-below n z = digits-bytes n (residue n z)
-
 pub unsigned-bytes : (n : ℕ) (z : ℤ) → unsignedAt (bytesOf n z) 0 n ≡ residue n z
 unfolding bytesOf
 unsigned-bytes n z = digits-value n (residue n z) ∙ mod-eq-of-lt (residue-lt n z)
@@ -34,15 +25,6 @@ unsigned-bytes n z = digits-value n (residue n z) ∙ mod-eq-of-lt (residue-lt n
 pub signed-bytes : (n : ℕ) (z : ℤ) → 1 ≤ n → Signed n z → signedAt (bytesOf n z) 0 n ≡ z
 unfolding signedAt
 signed-bytes n z k h = ap (signedOf n) (unsigned-bytes n z) ∙ signed-residue n z k h
-
--- the range, as two comparisons
-pub signed-between : (n h : ℕ) (z : ℤ) → 2 * h ≤ 256 ^ n → negℤ (pos h) ≤ℤ z → z <ℤ pos h → Signed n z
-signed-between n h (pos a) = simp ℤ⊖ (omega arith)
-signed-between n h (negsuc a) = simp ℤ⊖ (omega arith)
-
--- an i64 is a number of 8 bytes
-pub signed-word : (z : ℤ) → SFits w64 z → Signed 8 z
-signed-word z f = omega (arith, f .sfits)
 
 -- ---- what is written is read back
 
@@ -68,10 +50,6 @@ bytes-signed s at n b h =
 pub write-back : (s : List ℕ) (at n : ℕ) → Bytes s → at + n ≤ length s → splice s at (bytesOf n (signedAt s at n)) ≡ s
 write-back s at n b h = ap (splice s at) (bytes-signed s at n b h) ∙ splice-part s at n h
 
-pub signed-at-in : (s : List ℕ) (at n : ℕ) → Bytes s → Signed n (signedAt s at n)
-unfolding signedAt
-signed-at-in s at n b = signed-in n (unsignedAt s at n) (unsigned-lt s at n b)
-
 -- ---- what stands elsewhere
 
 pub unsigned-apart : (s : List ℕ) (at : ℕ) (bs : List ℕ) (place n : ℕ) → Apart place n at (length bs)
@@ -83,8 +61,3 @@ pub signed-apart : (s : List ℕ) (at : ℕ) (bs : List ℕ) (place n : ℕ) →
     → signedAt (splice s at bs) place n ≡ signedAt s place n
 unfolding signedAt
 signed-apart s at bs place n h = ap (signedOf n) (unsigned-apart s at bs place n h)
-
-pub double-apart : (s : List ℕ) (at : ℕ) (bs : List ℕ) (place : ℕ) → Apart place 8 at (length bs)
-    → doubleAt (splice s at bs) place ≡ doubleAt s place
-unfolding doubleAt
-double-apart s at bs place h = ap (ofBits binary64) (unsigned-apart s at bs place 8 h)

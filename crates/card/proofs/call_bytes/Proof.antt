@@ -23,15 +23,6 @@ returns-2 c =
     let a = c .before .before .before .before .args in
     bytes-unread (a .s .now) (a .out .now) (callOf (a .k)) 1 (c .before .if1 .left) (number-short (a .s .now) (c .if2 .taken)) one
 
-decode-requires : tie.Need-decode-requires
-decode-requires c κs = search needs
-
-shared-slice-read-number : tie.Need-shared-slice-read-number
-shared-slice-read-number c = search needs
-
-number-requires : tie.Need-number-requires
-number-requires c κs = search needs
-
 number-is : (c : tie.After-number) → c .number .result ≡ readNumber (c .before .before .before .before .before .before .before .args .s .now)
 number-is c =
     let s = c .before .before .before .before .before .before .before .args .s .now in
@@ -58,12 +49,6 @@ returns-4 c =
     bytes-refused (a .s .now) (a .out .now) (callOf (a .k)) (q .called .result) (d .decode .result) (d .before .before .if1 .left)
     (sym (number-is n) ∙ q .before .if3 .left) (d .decode .ensures) (q .called .ensures) (c .if4 .taken)
 
-encode-requires : tie.Need-encode-requires
-encode-requires c κs = search needs
-
-same-length : tie.Need-same-length
-same-length c = search needs
-
 returns-5 : tie.Need-returns-5
 returns-5 c =
     let e = c .before .before in
@@ -80,12 +65,12 @@ call-bytes-spec =
     (tie.spec
     returns
     returns-2
-    decode-requires
-    shared-slice-read-number
-    number-requires
+    (λ c κs. search needs)
+    (λ c. search needs)
+    (λ c κs. search needs)
     returns-3
     called-requires
     returns-4
-    encode-requires
-    same-length
+    (λ c κs. search needs)
+    (λ c. search needs)
     returns-5)

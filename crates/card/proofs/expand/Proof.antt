@@ -9,28 +9,13 @@ use Rattle.card.proofs.AnswerLaws.{expand-short, expand-number, expand-
 use Rattle.card.proofs.expand.Statement.{statement}
 use Rattle.card.proofs.expand.Tie as tie
 
-refused-requires : tie.Need-refused-requires
-refused-requires c κs = search needs
-
 returns : tie.Need-returns
 returns c = c .refused .ensures ∙ expand-short (c .before .before .before .args .s .now) (c .before .if1 .taken)
-
-open-requires : tie.Need-open-requires
-open-requires c κs = search needs
-
-zero-bytes-requires : tie.Need-zero-bytes-requires
-zero-bytes-requires c κs = search needs
-
-opened-number-requires : tie.Need-opened-number-requires
-opened-number-requires c κs = search needs
 
 number-is : (c : tie.After-opened-number) → c .opened-number .result ≡ fieldNumber (c .before .before .before .before .before .args .s .now)
 number-is c =
     let s = c .before .before .before .before .before .args .s .now in
     expand-number s (c .opened-number .result) (c .before .zero-bytes .result) (c .before .before .«open» .result) (c .before .before .before .if1 .left) (c .before .zero-bytes .ensures) (c .before .before .«open» .ensures) (c .opened-number .ensures)
-
-refused-requires-2 : tie.Need-refused-requires-2
-refused-requires-2 c κs = search needs
 
 returns-2 : tie.Need-returns-2
 returns-2 c =
@@ -60,12 +45,12 @@ pub expand-spec : {M : Type 1} → statement M
 expand-spec =
     tie.close
     (tie.spec
-    refused-requires
+    (λ c κs. search needs)
     returns
-    open-requires
-    zero-bytes-requires
-    opened-number-requires
-    refused-requires-2
+    (λ c κs. search needs)
+    (λ c κs. search needs)
+    (λ c κs. search needs)
+    (λ c κs. search needs)
     returns-2
     expanded-requires
     returns-3)

@@ -21,9 +21,6 @@ returns c =
     let e = export-short (a .card) (length (a .out .now)) (c .if1 .taken) in
     (e, kept-field (a .card) (a .out .now) 1 e one)
 
-number-requires : tie.Need-number-requires
-number-requires c κs = search needs
-
 returns-2 : tie.Need-returns-2
 returns-2 c =
     let a = c .before .before .before .before .args in
@@ -43,9 +40,6 @@ encode-field-requires c κs =
     let n = c .before .before .before .before in
     (n .before .if1 .left, number-passes (c .before .before .before .before .before .before .before .args .card) (n .number .result) (n .number .ensures) (c .before .before .before .if2 .left))
 
-same-length : tie.Need-same-length
-same-length c = search needs
-
 returns-4 : tie.Need-returns-4
 returns-4 c =
     let a = c .before .before .before .before .before .before .before .before .before .before .args in
@@ -54,4 +48,4 @@ returns-4 c =
     (e, c .before .before .encode-field .ensures ∙ put-field (a .card) (a .out .now) e)
 
 pub export-spec : {M : Type 1} → statement M
-export-spec = tie.close (tie.spec returns number-requires returns-2 returns-3 encode-field-requires same-length returns-4)
+export-spec = tie.close (tie.spec returns (λ c κs. search needs) returns-2 returns-3 encode-field-requires (λ c. search needs) returns-4)

@@ -8,28 +8,13 @@ use Rattle.card.proofs.AnswerLaws.{read-short, read-number, read-refuse
 use Rattle.card.proofs.read.Statement.{statement}
 use Rattle.card.proofs.read.Tie as tie
 
-refused-requires : tie.Need-refused-requires
-refused-requires c κs = search needs
-
 returns : tie.Need-returns
 returns c = c .refused .ensures ∙ read-short (c .before .before .before .args .s .now) (c .before .if1 .taken)
-
-decode-requires : tie.Need-decode-requires
-decode-requires c κs = search needs
-
-shared-slice-read-number : tie.Need-shared-slice-read-number
-shared-slice-read-number c = search needs
-
-number-requires : tie.Need-number-requires
-number-requires c κs = search needs
 
 number-is : (c : tie.After-number) → c .number .result ≡ readNumber (c .before .before .before .before .before .args .s .now)
 number-is c =
     let s = c .before .before .before .before .before .args .s .now in
     read-number s (c .number .result) (eqb (getD s 11 0) 0) (c .before .before .decode .result) (c .before .before .before .if1 .left) refl (c .before .before .decode .ensures) (c .number .ensures)
-
-refused-requires-2 : tie.Need-refused-requires-2
-refused-requires-2 c κs = search needs
 
 returns-2 : tie.Need-returns-2
 returns-2 c =
@@ -45,11 +30,11 @@ pub read-spec : {M : Type 1} → statement M
 read-spec =
     tie.close
     (tie.spec
-    refused-requires
+    (λ c κs. search needs)
     returns
-    decode-requires
-    shared-slice-read-number
-    number-requires
-    refused-requires-2
+    (λ c κs. search needs)
+    (λ c. search needs)
+    (λ c κs. search needs)
+    (λ c κs. search needs)
     returns-2
     returns-3)

@@ -18,9 +18,6 @@ returns c =
     let e = write-short (a .card) (length (a .out .now)) (c .if1 .taken) in
     (e, kept-out (a .card) (a .out .now) 1 e one)
 
-number-requires : tie.Need-number-requires
-number-requires c κs = search needs
-
 number-is : (c : tie.After-number) → c .number .result ≡ writeNumber (c .before .before .before .args .card) (length (c .before .before .before .args .out .now))
 number-is c =
     let a = c .before .before .before .args in
@@ -31,12 +28,6 @@ returns-2 c =
     let a = c .before .before .before .before .args in
     (number-is (c .before), kept-out (a .card) (a .out .now) (c .before .number .result) (number-is (c .before)) (c .if2 .taken))
 
-encode-requires : tie.Need-encode-requires
-encode-requires c κs = search needs
-
-same-length : tie.Need-same-length
-same-length c = search needs
-
 returns-3 : tie.Need-returns-3
 returns-3 c =
     let a = c .before .before .before .before .before .before .before .before .args in
@@ -44,4 +35,4 @@ returns-3 c =
     (e, c .before .before .encode .ensures ∙ put-out (a .card) (a .out .now) e)
 
 pub write-spec : {M : Type 1} → statement M
-write-spec = tie.close (tie.spec returns number-requires returns-2 encode-requires same-length returns-3)
+write-spec = tie.close (tie.spec returns (λ c κs. search needs) returns-2 (λ c κs. search needs) (λ c. search needs) returns-3)

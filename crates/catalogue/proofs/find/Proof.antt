@@ -9,9 +9,6 @@ use Rattle.catalogue.proofs.LookupLaws.{number-of, place-of, place-refu
 use Rattle.catalogue.proofs.find.Statement.{statement}
 use Rattle.catalogue.proofs.find.Tie as tie
 
-scan-requires : tie.Need-scan-requires
-scan-requires c κs = search needs
-
 module _ (c : tie.After-struct-known) where
   number-is : c .before .scan .result .number ≡ findNumber (c .before .before .before .before .args .catalogue .now) (c .before .before .before .before .args .key .now)
   number-is = number-of (c .before .before .before .before .args .catalogue .now) (c .before .before .before .before .args .key .now) (c .before .scan .ensures)
@@ -42,9 +39,6 @@ sub-result c = omega (arith, refused-at c)
 part-result-start : tie.Need-part-result-start
 part-result-start c = omega (arith, refused-at c)
 
-part-result-end : tie.Need-part-result-end
-part-result-end c = search needs
-
 returns : tie.Need-returns
 returns c =
     let k = c .before .before in
@@ -56,12 +50,6 @@ returns c =
 
 add-end : tie.Need-add-end
 add-end c = omega (arith, within c)
-
-sub-result-2 : tie.Need-sub-result-2
-sub-result-2 c = search needs
-
-part-result-start-2 : tie.Need-part-result-start-2
-part-result-start-2 c = search needs
 
 part-result-end-2 : tie.Need-part-result-end-2
 part-result-end-2 c = omega (arith, within c)
@@ -76,13 +64,13 @@ pub find-spec : {M : Type 1} → statement M
 find-spec =
     tie.close
     (tie.spec
-    scan-requires
+    (λ c κs. search needs)
     sub-result
     part-result-start
-    part-result-end
+    (λ c. search needs)
     returns
     add-end
-    sub-result-2
-    part-result-start-2
+    (λ c. search needs)
+    (λ c. search needs)
     part-result-end-2
     returns-2)

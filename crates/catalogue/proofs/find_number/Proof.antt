@@ -4,11 +4,8 @@ use Rattle.catalogue.proofs.LookupLaws.{number-of}
 use Rattle.catalogue.proofs.find_number.Statement.{statement}
 use Rattle.catalogue.proofs.find_number.Tie as tie
 
-scan-requires : tie.Need-scan-requires
-scan-requires c κs = search needs
-
 returns : tie.Need-returns
 returns c = number-of (c .before .before .before .args .catalogue .now) (c .before .before .before .args .key .now) (c .scan .ensures)
 
 pub find-number-spec : {M : Type 1} → statement M
-find-number-spec = tie.close (tie.spec scan-requires returns)
+find-number-spec = tie.close (tie.spec (λ c κs. search needs) returns)

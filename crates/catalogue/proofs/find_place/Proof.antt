@@ -4,11 +4,8 @@ use Rattle.catalogue.proofs.LookupLaws.{place-of}
 use Rattle.catalogue.proofs.find_place.Statement.{statement}
 use Rattle.catalogue.proofs.find_place.Tie as tie
 
-scan-requires : tie.Need-scan-requires
-scan-requires c κs = search needs
-
 returns : tie.Need-returns
 returns c = place-of (c .before .before .before .args .catalogue .now) (c .before .before .before .args .key .now) (c .scan .ensures)
 
 pub find-place-spec : {M : Type 1} → statement M
-find-place-spec = tie.close (tie.spec scan-requires returns)
+find-place-spec = tie.close (tie.spec (λ c κs. search needs) returns)

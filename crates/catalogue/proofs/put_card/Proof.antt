@@ -14,18 +14,6 @@ use borrow.Author.Needs.{needs}
 use Rattle.catalogue.proofs.put_card.Statement.{statement}
 use Rattle.catalogue.proofs.put_card.Tie as tie
 
-slice-aggregate-put-bytes : tie.Need-slice-aggregate-put-bytes
-slice-aggregate-put-bytes c = search needs
-
-put-bytes-requires : tie.Need-put-bytes-requires
-put-bytes-requires c κs = search needs
-
-cast-put-natural : tie.Need-cast-put-natural
-cast-put-natural c = search needs
-
-put-natural-requires : tie.Need-put-natural-requires
-put-natural-requires c κs = search needs
-
 -- what the line holds after the site and after each number
 abbrev one : Card → List ℕ
 one k = k .site ++ (32 ∷ natural (k .frame))
@@ -100,9 +88,6 @@ put-integer-requires-3 c κs = omega (arith, small-3 (c .before .before .before 
 put-integer-requires-4 : tie.Need-put-integer-requires-4
 put-integer-requires-4 c κs = omega (arith, small-4 (c .before .before .before .before))
 
-put-byte-requires : tie.Need-put-byte-requires
-put-byte-requires c κs = search needs
-
 add-result : tie.Need-add-result
 add-result c = omega (arith, small-5 (c .before .before .before .before .before .before))
 
@@ -116,15 +101,15 @@ pub put-card-spec : {M : Type 1} → statement M
 put-card-spec =
     tie.close
     (tie.spec
-    slice-aggregate-put-bytes
-    put-bytes-requires
-    cast-put-natural
-    put-natural-requires
+    (λ c. search needs)
+    (λ c κs. search needs)
+    (λ c. search needs)
+    (λ c κs. search needs)
     put-integer-requires
     put-integer-requires-2
     put-integer-requires-3
     put-integer-requires-4
-    put-byte-requires
+    (λ c κs. search needs)
     add-result
     same-length
     returns)

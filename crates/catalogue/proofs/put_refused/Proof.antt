@@ -10,18 +10,6 @@ use borrow.Author.Needs.{needs}
 use Rattle.catalogue.proofs.put_refused.Statement.{statement}
 use Rattle.catalogue.proofs.put_refused.Tie as tie
 
-slice-aggregate-put-bytes : tie.Need-slice-aggregate-put-bytes
-slice-aggregate-put-bytes c = search needs
-
-put-bytes-requires : tie.Need-put-bytes-requires
-put-bytes-requires c κs = search needs
-
-put-natural-requires : tie.Need-put-natural-requires
-put-natural-requires c κs = search needs
-
-put-byte-requires : tie.Need-put-byte-requires
-put-byte-requires c κs = search needs
-
 word : (first out : List ℕ) → out ≡ splice first 0 (114 ∷ 101 ∷ 102 ∷ 117 ∷ 115 ∷ 101 ∷ 100 ∷ []) → Put first out refusedWord 7
 unfolding refusedWord
 word first out e = record { holds = e; place = refl }
@@ -31,9 +19,6 @@ add-result c =
     let n = c .before .before .before .before .before .before in
     let a = n .before .before .before .before .before .before .before .before .args in
     omega (arith, n .put-natural .ensures .0, length-natural (a .number), places-most (a .number))
-
-same-length : tie.Need-same-length
-same-length c = search needs
 
 returns : tie.Need-returns
 returns c =
@@ -52,10 +37,10 @@ pub put-refused-spec : {M : Type 1} → statement M
 put-refused-spec =
     tie.close
     (tie.spec
-    slice-aggregate-put-bytes
-    put-bytes-requires
-    put-natural-requires
-    put-byte-requires
+    (λ c. search needs)
+    (λ c κs. search needs)
+    (λ c κs. search needs)
+    (λ c κs. search needs)
     add-result
-    same-length
+    (λ c. search needs)
     returns)

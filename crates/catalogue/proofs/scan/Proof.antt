@@ -27,9 +27,6 @@ Inv-loop s key at₀ at = Passed s key at
 abbrev μ-loop : tie.MeasureT-loop
 μ-loop s key at₀ at = length s - at
 
-is-site-requires : tie.Need-is-site-requires Inv-loop μ-loop
-is-site-requires c κs = search needs
-
 shape : (c : tie.Else1 Inv-loop μ-loop) → siteShape (c .before .before .before .before .args .key .now) ≡ true
 shape c = sym (c .before .is-site .ensures) ∙ not-false (c .before .is-site .result) (c .if1 .left)
 
@@ -70,12 +67,6 @@ returns-3 c =
     (sym (c .before .has-site .ensures) ∙ c .if3 .taken))
     (c .before .before .loop-test .taken)
 
-add-at : tie.Need-add-at Inv-loop μ-loop
-add-at c = omega arith
-
-loop-less : tie.Need-loop-less Inv-loop μ-loop
-loop-less c = omega arith
-
 loop-again : tie.Need-loop-again Inv-loop μ-loop
 loop-again c =
     let l = c .before .before .before in
@@ -109,13 +100,13 @@ scan-spec =
     (tie.spec
     Inv-loop
     μ-loop
-    is-site-requires
+    (λ c κs. search needs)
     returns
     returns-2
     loop-holds
     has-site-requires
     returns-3
-    add-at
-    loop-less
+    (λ c. omega arith)
+    (λ c. omega arith)
     loop-again
     returns-4)

@@ -30,37 +30,13 @@ whole-is s at a e h k =
     let n : at + 88 - at ≡ 88 = omega arith in
     ap (λ (b : Answer). stepped b (at + 88)) (e ∙ ap (λ (m : ℕ). readCard (take m (drop at s))) n) ∙ sym (taken-whole s at h k)
 
-blank-requires : tie.Need-blank-requires
-blank-requires c κs = search needs
-
 returns : tie.Need-returns
 returns c = let a = c .before .before .before .args in done-is (a .s .now) (a .at) (c .blank .result) (c .blank .ensures) (c .before .if1 .taken)
-
-sub-if2 : tie.Need-sub-if2
-sub-if2 c = search needs
-
-blank-requires-2 : tie.Need-blank-requires-2
-blank-requires-2 c κs = search needs
 
 returns-2 : tie.Need-returns-2
 returns-2 c =
     let a = c .before .before .before .before .args in
     short-is (a .s .now) (a .at) (c .blank2 .result) (c .blank2 .ensures) (c .before .before .if1 .left) (c .before .if2 .taken)
-
-add-end : tie.Need-add-end
-add-end c = search needs
-
-sub-read : tie.Need-sub-read
-sub-read c = search needs
-
-part-read-start : tie.Need-part-read-start
-part-read-start c = search needs
-
-part-read-end : tie.Need-part-read-end
-part-read-end c = search needs
-
-read-requires : tie.Need-read-requires
-read-requires c κs = search needs
 
 returns-3 : tie.Need-returns-3
 returns-3 c =
@@ -72,14 +48,14 @@ pub take-at-spec : {M : Type 1} → statement M
 take-at-spec =
     tie.close
     (tie.spec
-    blank-requires
+    (λ c κs. search needs)
     returns
-    sub-if2
-    blank-requires-2
+    (λ c. search needs)
+    (λ c κs. search needs)
     returns-2
-    add-end
-    sub-read
-    part-read-start
-    part-read-end
-    read-requires
+    (λ c. search needs)
+    (λ c. search needs)
+    (λ c. search needs)
+    (λ c. search needs)
+    (λ c κs. search needs)
     returns-3)

@@ -57,9 +57,6 @@ loop-holds c =
     let s = c .before .before in
     record { size = s .pre .0; room = s .pre .1; kept = refl; within = omega arith; steps = λ h. refl; spent = omega arith }
 
-part-end-requires : tie.Need-part-end-requires Inv-loop μ-loop
-part-end-requires c κs = omega arith
-
 sub-line : tie.Need-sub-line Inv-loop μ-loop
 sub-line c = omega (arith, c .part-end .ensures)
 
@@ -77,9 +74,6 @@ part-line-start-2 c = omega (arith, ready (c .before .before) .free)
 
 part-line-end-2 : tie.Need-part-line-end-2 Inv-loop μ-loop
 part-line-end-2 c = omega (arith, ready (c .before .before) .free)
-
-line-requires : tie.Need-line-requires Inv-loop μ-loop
-line-requires c κs = search needs
 
 line-short : (c : tie.After-slice-known2 Inv-loop μ-loop) → c .before .before .line .result ≤ 120
 line-short c =
@@ -113,14 +107,14 @@ fill-spec =
     Inv-loop
     μ-loop
     loop-holds
-    part-end-requires
+    (λ c κs. omega arith)
     sub-line
     part-line-start
     part-line-end
     sub-line-2
     part-line-start-2
     part-line-end-2
-    line-requires
+    (λ c κs. search needs)
     add-filled
     loop-less
     loop-again

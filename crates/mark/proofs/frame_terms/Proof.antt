@@ -91,16 +91,10 @@ row-small c = rw (c .row-of .ensures) (small (c .before .before .before .before 
 returns : tie.Need-returns
 returns c = unknown (c .before .args .frame) (c .before .args .m) (c .if1 .taken)
 
-squares-within-requires : tie.Need-squares-within-requires
-squares-within-requires c κs = search needs
-
 returns-2 : tie.Need-returns-2
 returns-2 c =
     let s = c .before .before .before in
     no-mark (s .args .frame) (s .args .m) (c .before .before .if1 .left) (squares-unmarked (s .args .m) (sym (c .before .squares-within .ensures) ∙ c .if2 .taken))
-
-row-of-requires : tie.Need-row-of-requires
-row-of-requires c κs = search needs
 
 offset-requires : tie.Need-offset-requires
 offset-requires c κs =
@@ -164,9 +158,9 @@ frame-terms-spec =
     tie.close
     (tie.spec
     returns
-    squares-within-requires
+    (λ c κs. search needs)
     returns-2
-    row-of-requires
+    (λ c κs. search needs)
     offset-requires
     offset-requires-2
     offset-requires-3

@@ -16,9 +16,6 @@ use Rattle.mark.proofs.permanent.Tie as tie
 whole-length-requires : tie.Need-whole-length-requires
 whole-length-requires c κs = (lit< tt, lit< tt)
 
-refused-requires : tie.Need-refused-requires
-refused-requires c κs = search needs
-
 returns : tie.Need-returns
 returns c =
     let m = c .before .before .before .args .m in
@@ -48,4 +45,4 @@ returns-2 c =
     permanent-accepted m (c .permanent-of .result) (known (c .before .before)) (c .permanent-of .ensures ∙ named m (c .before .units .result) (units-are (c .before)))
 
 pub permanent-spec : {M : Type 1} → statement M
-permanent-spec = tie.close (tie.spec whole-length-requires refused-requires returns units-requires permanent-of-requires returns-2)
+permanent-spec = tie.close (tie.spec whole-length-requires (λ c κs. search needs) returns units-requires permanent-of-requires returns-2)

@@ -41,17 +41,11 @@ directed c =
     let e = c .before .before .before .before .before .before in
     subst⁻¹ Direction (unit-is c) (accepted-direction (e .before .before .before .args .m) (mark-in e))
 
-whole-length-requires : tie.Need-whole-length-requires
-whole-length-requires c κs = search needs
-
 returns : tie.Need-returns
 returns c =
     let a = c .before .before .before .args in
     let r : answer 6 0 ≡ seriesAnswer (a .m) (a .bodies .now) (length (a .out .now)) = series-unmarked (a .m) (a .bodies .now) (length (a .out .now)) (unmarked (a .m) (sym (c .before .whole-length .ensures) ∙ c .if1 .taken)) in
     (r, kept (a .m) (a .bodies .now) (a .out .now) (answer 6 0) r (eqb-false 6 0 refl))
-
-mul-if2 : tie.Need-mul-if2
-mul-if2 c = search needs
 
 returns-2 : tie.Need-returns-2
 returns-2 c =
@@ -59,17 +53,11 @@ returns-2 c =
     let r : answer 16 0 ≡ seriesAnswer (a .m) (a .bodies .now) (length (a .out .now)) = series-uneven (a .m) (a .bodies .now) (length (a .out .now)) (mark-in (c .before)) (no-six (length (a .bodies .now)) (length (a .out .now)) (c .if2 .taken)) in
     (r, kept (a .m) (a .bodies .now) (a .out .now) (answer 16 0) r (eqb-false 16 0 refl))
 
-mul-if3 : tie.Need-mul-if3
-mul-if3 c = search needs
-
 returns-3 : tie.Need-returns-3
 returns-3 c =
     let a = c .before .before .before .before .before .args in
     let r : answer 16 0 ≡ seriesAnswer (a .m) (a .bodies .now) (length (a .out .now)) = series-uneven (a .m) (a .bodies .now) (length (a .out .now)) (mark-in (c .before .before)) (no-three (length (a .bodies .now)) (length (a .out .now)) (c .if3 .taken)) in
     (r, kept (a .m) (a .bodies .now) (a .out .now) (answer 16 0) r (eqb-false 16 0 refl))
-
-scan-requires : tie.Need-scan-requires
-scan-requires c κs = search needs
 
 returns-4 : tie.Need-returns-4
 returns-4 c =
@@ -87,9 +75,6 @@ fill-requires c κs =
     let e = c .before .before .before .before .before in
     (directed (c .before), (e .before .if2 .left, e .if3 .left))
 
-same-length : tie.Need-same-length
-same-length c = search needs
-
 returns-5 : tie.Need-returns-5
 returns-5 c =
     let u = c .before .before .before in
@@ -105,15 +90,15 @@ pub series-spec : {M : Type 1} → statement M
 series-spec =
     tie.close
     (tie.spec
-    whole-length-requires
+    (λ c κs. search needs)
     returns
-    mul-if2
+    (λ c. search needs)
     returns-2
-    mul-if3
+    (λ c. search needs)
     returns-3
-    scan-requires
+    (λ c κs. search needs)
     returns-4
     units-requires
     fill-requires
-    same-length
+    (λ c. search needs)
     returns-5)

@@ -50,12 +50,6 @@ unit-is c =
 directed : (c : tie.After-units) → Direction (c .units .result)
 directed c = subst⁻¹ Direction (unit-is c) (accepted-direction (c .before .before .before .args .m) (mark-in (c .before)))
 
-whole-length-requires : tie.Need-whole-length-requires
-whole-length-requires c κs = search needs
-
-refused-requires : tie.Need-refused-requires
-refused-requires c κs = search needs
-
 returns : tie.Need-returns
 returns c =
     let a = c .before .before .before .args in
@@ -64,35 +58,14 @@ returns c =
 units-requires : tie.Need-units-requires
 units-requires c κs = accepted-wide (c .before .before .args .m) (mark-in c)
 
-enum-known-first : tie.Need-enum-known-first
-enum-known-first c = search needs
-
 enum-told : tie.Need-enum-told
 enum-told c = search needs
-
-refused-requires-2 : tie.Need-refused-requires-2
-refused-requires-2 c κs = search needs
-
-enum-known-second : tie.Need-enum-known-second
-enum-known-second c = search needs
 
 pair-tide-requires : tie.Need-pair-tide-requires
 pair-tide-requires c κs = directed (c .before .before .before .before .before .before)
 
-enum-known-first-2 : tie.Need-enum-known-first-2
-enum-known-first-2 c = search needs
-
-enum-known-second-2 : tie.Need-enum-known-second-2
-enum-known-second-2 c = search needs
-
 pair-tide-requires-2 : tie.Need-pair-tide-requires-2
 pair-tide-requires-2 c κs = directed (c .before .before .before .before .before .before)
-
-enum-told-2 : tie.Need-enum-told-2
-enum-told-2 c = search needs
-
-refused-requires-3 : tie.Need-refused-requires-3
-refused-requires-3 c κs = search needs
 
 -- the bodies as they were taken apart
 returns-2 : tie.Need-returns-2
@@ -142,20 +115,20 @@ pub solid-tide-spec : {M : Type 1} → statement M
 solid-tide-spec =
     tie.close
     (tie.spec
-    whole-length-requires
-    refused-requires
+    (λ c κs. search needs)
+    (λ c κs. search needs)
     returns
     units-requires
-    enum-known-first
+    (λ c. search needs)
     enum-told
-    refused-requires-2
-    enum-known-second
+    (λ c κs. search needs)
+    (λ c. search needs)
     pair-tide-requires
-    enum-known-first-2
-    enum-known-second-2
+    (λ c. search needs)
+    (λ c. search needs)
     pair-tide-requires-2
-    enum-told-2
-    refused-requires-3
+    (λ c. search needs)
+    (λ c κs. search needs)
     returns-2
     returns-3
     returns-4

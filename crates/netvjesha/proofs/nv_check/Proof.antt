@@ -4,11 +4,8 @@ use Rattle.netvjesha.proofs.FaceLaws.{number-read}
 use Rattle.netvjesha.proofs.nv_check.Statement.{statement}
 use Rattle.netvjesha.proofs.nv_check.Tie as tie
 
-read-requires : tie.Need-read-requires
-read-requires c κs = search needs
-
 returns : tie.Need-returns
 returns c = number-read (c .before .before .args .card .now) (c .read .result) (c .read .ensures)
 
 pub nv-check-spec : {M : Type 1} → statement M
-nv-check-spec = tie.close (tie.spec read-requires returns)
+nv-check-spec = tie.close (tie.spec (λ c κs. search needs) returns)

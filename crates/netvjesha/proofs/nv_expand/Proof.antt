@@ -9,15 +9,6 @@ returns c =
     let a = c .before .before .before .args in
     expand-short (a .field .now) (a .out .now) (c .if1 .taken)
 
-expand-requires : tie.Need-expand-requires
-expand-requires c κs = search needs
-
-settle-requires : tie.Need-settle-requires
-settle-requires c κs = search needs
-
-same-length : tie.Need-same-length
-same-length c = search needs
-
 returns-2 : tie.Need-returns-2
 returns-2 c =
     let s = c .before .before in
@@ -27,4 +18,4 @@ returns-2 c =
     (x .before .if1 .left) (x .expand .ensures) (s .settle .ensures .0) (s .settle .ensures .1)
 
 pub nv-expand-spec : {M : Type 1} → statement M
-nv-expand-spec = tie.close (tie.spec returns expand-requires settle-requires same-length returns-2)
+nv-expand-spec = tie.close (tie.spec returns (λ c κs. search needs) (λ c κs. search needs) (λ c. search needs) returns-2)

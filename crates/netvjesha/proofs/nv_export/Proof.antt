@@ -9,20 +9,11 @@ returns c =
     let a = c .before .before .before .args in
     export-short (a .card .now) (a .field .now) (c .if1 .taken)
 
-read-requires : tie.Need-read-requires
-read-requires c κs = search needs
-
 returns-2 : tie.Need-returns-2
 returns-2 c =
     let r = c .before .before in
     let a = r .before .before .before .before .args in
     export-unread (a .card .now) (a .field .now) (r .read .result) (r .before .if1 .left) (r .read .ensures) (c .if2 .taken)
-
-export-requires : tie.Need-export-requires
-export-requires c κs = search needs
-
-same-length : tie.Need-same-length
-same-length c = search needs
 
 returns-3 : tie.Need-returns-3
 returns-3 c =
@@ -34,4 +25,4 @@ returns-3 c =
     (r .before .if1 .left) (r .read .ensures) (i .if2 .left) (x .export .ensures .0) (x .export .ensures .1)
 
 pub nv-export-spec : {M : Type 1} → statement M
-nv-export-spec = tie.close (tie.spec returns read-requires returns-2 export-requires same-length returns-3)
+nv-export-spec = tie.close (tie.spec returns (λ c κs. search needs) returns-2 (λ c κs. search needs) (λ c. search needs) returns-3)

@@ -11,29 +11,14 @@ returns c =
     let a = c .before .before .before .args in
     metres-short (a .card .now) (a .out .now) (c .if1 .taken)
 
-read-requires : tie.Need-read-requires
-read-requires c κs = search needs
-
 returns-2 : tie.Need-returns-2
 returns-2 c =
     let r = c .before .before in
     let a = r .before .before .before .before .args in
     metres-unread (a .card .now) (a .out .now) (r .read .result) (r .before .if1 .left) (r .read .ensures) (c .if2 .taken)
 
-metres-out-requires : tie.Need-metres-out-requires
-metres-out-requires c κs = search needs
-
-slice-write-out : tie.Need-slice-write-out
-slice-write-out c = search needs
-
-slice-write-out-2 : tie.Need-slice-write-out-2
-slice-write-out-2 c = search needs
-
 slice-write-out-3 : tie.Need-slice-write-out-3
 slice-write-out-3 c = simp length-set (omega (arith, c .before .before .before .before .before .if1 .left))
-
-same-length : tie.Need-same-length
-same-length c = search needs
 
 returns-3 : tie.Need-returns-3
 returns-3 c =
@@ -47,11 +32,11 @@ nv-metres-spec =
     tie.close
     (tie.spec
     returns
-    read-requires
+    (λ c κs. search needs)
     returns-2
-    metres-out-requires
-    slice-write-out
-    slice-write-out-2
+    (λ c κs. search needs)
+    (λ c. search needs)
+    (λ c. search needs)
     slice-write-out-3
-    same-length
+    (λ c. search needs)
     returns-3)

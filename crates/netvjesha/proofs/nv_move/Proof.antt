@@ -9,12 +9,6 @@ use Rattle.netvjesha.proofs.FaceLaws.{same-call}
 use Rattle.netvjesha.proofs.nv_move.Statement.{statement}
 use Rattle.netvjesha.proofs.nv_move.Tie as tie
 
-call-bytes-requires : tie.Need-call-bytes-requires
-call-bytes-requires c κs = search needs
-
-same-length : tie.Need-same-length
-same-length c = search needs
-
 returns : tie.Need-returns
 returns c =
     let r = c .before .before in
@@ -24,4 +18,4 @@ returns c =
     (ap move (toZ-ofZ (s .fits .d))) (r .call-bytes .ensures)
 
 pub nv-move-spec : {M : Type 1} → statement M
-nv-move-spec = tie.close (tie.spec call-bytes-requires same-length returns)
+nv-move-spec = tie.close (tie.spec (λ c κs. search needs) (λ c. search needs) returns)

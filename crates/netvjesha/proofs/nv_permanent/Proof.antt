@@ -13,9 +13,6 @@ returns c =
     let a = c .before .args in
     permanent-short (vec (a .x) (a .y) (a .z)) (a .out .now) (c .if1 .taken)
 
-permanent-requires : tie.Need-permanent-requires
-permanent-requires c κs = search needs
-
 answer-is : (p : tie.After-permanent) → p .permanent .result ≡ permanentAnswer (vec (p .before .before .args .x) (p .before .before .args .y) (p .before .before .args .z))
 answer-is p =
     let f = p .before .before .fits in
@@ -26,18 +23,6 @@ returns-2 c =
     let p = c .before .before in
     let a = p .before .before .args in
     permanent-unmarked (vec (a .x) (a .y) (a .z)) (a .out .now) (p .permanent .result) (p .before .if1 .left) (answer-is p) (c .if2 .taken)
-
-slice-set-from-dx : tie.Need-slice-set-from-dx
-slice-set-from-dx c = search needs
-
-slice-set-from-dy : tie.Need-slice-set-from-dy
-slice-set-from-dy c = search needs
-
-slice-set-from-dz : tie.Need-slice-set-from-dz
-slice-set-from-dz c = search needs
-
-same-length : tie.Need-same-length
-same-length c = search needs
 
 returns-3 : tie.Need-returns-3
 returns-3 c =
@@ -52,10 +37,10 @@ nv-permanent-spec =
     tie.close
     (tie.spec
     returns
-    permanent-requires
+    (λ c κs. search needs)
     returns-2
-    slice-set-from-dx
-    slice-set-from-dy
-    slice-set-from-dz
-    same-length
+    (λ c. search needs)
+    (λ c. search needs)
+    (λ c. search needs)
+    (λ c. search needs)
     returns-3)

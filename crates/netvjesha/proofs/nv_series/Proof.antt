@@ -11,15 +11,6 @@ use Rattle.netvjesha.proofs.TripleLaws.{back, pack-small, pack-is}
 use Rattle.netvjesha.proofs.nv_series.Statement.{statement}
 use Rattle.netvjesha.proofs.nv_series.Tie as tie
 
-series-requires : tie.Need-series-requires
-series-requires c κs = search needs
-
-cast-result : tie.Need-cast-result
-cast-result c = search needs
-
-mul-result : tie.Need-mul-result
-mul-result c = search needs
-
 -- the mark comes back as it went in
 mark-is : (s : tie.After-series) → vec (rd (s .before .before .before .args .x)) (rd (s .before .before .before .args .y)) (rd (s .before .before .before .args .z)) ≡ vec (s .before .before .before .args .x) (s .before .before .before .args .y) (s .before .before .before .args .z)
 mark-is s = let f = s .before .before .before .fits in back (f .x) (f .y) (f .z)
@@ -34,9 +25,6 @@ add-result c =
     let a = c .before .before .before .before .args in
     record { fits = pack-small (vec (a .x) (a .y) (a .z)) (a .bodies .now) (length (a .out .now)) (c .before .series .result) (answer-is (c .before)) }
 
-same-length : tie.Need-same-length
-same-length c = search needs
-
 returns : tie.Need-returns
 returns c =
     let s = c .before in
@@ -46,4 +34,4 @@ returns c =
     )
 
 pub nv-series-spec : {M : Type 1} → statement M
-nv-series-spec = tie.close (tie.spec series-requires cast-result mul-result add-result same-length returns)
+nv-series-spec = tie.close (tie.spec (λ c κs. search needs) (λ c. search needs) (λ c. search needs) add-result (λ c. search needs) returns)

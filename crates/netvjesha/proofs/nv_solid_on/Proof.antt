@@ -6,15 +6,6 @@ use Rattle.netvjesha.proofs.FaceLaws.{same-call}
 use Rattle.netvjesha.proofs.nv_solid_on.Statement.{statement}
 use Rattle.netvjesha.proofs.nv_solid_on.Tie as tie
 
-solid-requires : tie.Need-solid-requires
-solid-requires c κs = search needs
-
-call-bytes-requires : tie.Need-call-bytes-requires
-call-bytes-requires c κs = search needs
-
-same-length : tie.Need-same-length
-same-length c = search needs
-
 returns : tie.Need-returns
 returns c =
     let r = c .before .before in
@@ -24,4 +15,4 @@ returns c =
     (r .call-bytes .result) (r .call-bytes .last .1 .1 .0) (q .solid .ensures) (r .call-bytes .ensures)
 
 pub nv-solid-on-spec : {M : Type 1} → statement M
-nv-solid-on-spec = tie.close (tie.spec solid-requires call-bytes-requires same-length returns)
+nv-solid-on-spec = tie.close (tie.spec (λ c κs. search needs) (λ c κs. search needs) (λ c. search needs) returns)

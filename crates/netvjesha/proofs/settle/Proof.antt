@@ -9,12 +9,6 @@ returns c =
     let a = c .before .before .before .args in
     settle-refused (a .answer) (a .out .now) (c .if1 .taken)
 
-write-requires : tie.Need-write-requires
-write-requires c κs = search needs
-
-same-length : tie.Need-same-length
-same-length c = search needs
-
 returns-2 : tie.Need-returns-2
 returns-2 c =
     let w = c .before .before in
@@ -22,4 +16,4 @@ returns-2 c =
     settle-written (a .answer) (a .out .now) (w .write .result) (w .write .last .1 .0) (w .before .before .if1 .left) (w .write .ensures .0) (w .write .ensures .1)
 
 pub settle-spec : {M : Type 1} → statement M
-settle-spec = tie.close (tie.spec returns write-requires same-length returns-2)
+settle-spec = tie.close (tie.spec returns (λ c κs. search needs) (λ c. search needs) returns-2)

@@ -16,12 +16,6 @@ returns-2 c =
     let a = c .before .before .args in
     second-other (a .k) (a .l) (a .v) (a .w) (c .before .if1 .left) (c .if2 .taken)
 
-body-requires : tie.Need-body-requires
-body-requires c κs = search needs
-
-body-requires-2 : tie.Need-body-requires-2
-body-requires-2 c κs = search needs
-
 returns-3 : tie.Need-returns-3
 returns-3 c =
     let e = c .before .before in
@@ -29,4 +23,4 @@ returns-3 c =
     ap₂ solidOn (c .before .body .ensures) (c .body2 .ensures) ∙ both-labelled (a .k) (a .l) (a .v) (a .w) (e .before .if1 .left) (e .if2 .left)
 
 pub solid-spec : {M : Type 1} → statement M
-solid-spec = tie.close (tie.spec returns returns-2 body-requires body-requires-2 returns-3)
+solid-spec = tie.close (tie.spec returns returns-2 (λ c κs. search needs) (λ c κs. search needs) returns-3)

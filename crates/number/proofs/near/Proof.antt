@@ -15,12 +15,6 @@ use Rattle.number.proofs.NearLaws.{nearest-no-larger}
 use Rattle.number.proofs.near.Statement.{statement}
 use Rattle.number.proofs.near.Tie as tie
 
-magnitude-requires : tie.Need-magnitude-requires
-magnitude-requires c κs = search needs
-
-nearest-requires : tie.Need-nearest-requires
-nearest-requires c κs = search needs
-
 -- what came back is the rounded magnitude
 came : (c : tie.After-nearest) → c .nearest .result ≡ nearest (natAbs (c .before .before .args .a)) (c .before .before .args .b)
 came c = c .nearest .ensures ∙ ap (λ (n : ℕ). nearest n (c .before .before .args .b)) (c .before .magnitude .ensures ∙ ap natAbs (toZ-ofZ (c .before .before .fits .a)))
@@ -41,9 +35,6 @@ returns : tie.Need-returns
 returns c =
     ap (λ (k : ℕ). negℤ (pos k)) (sym (c .if2 .taken))
     ∙ negated (c .before .before .before .before .args .a) (c .before .before .before .before .args .b) (c .before .before .nearest .result) (known (c .before)) (came (c .before .before))
-
-sub-result : tie.Need-sub-result
-sub-result c = search needs
 
 -- the way out, for a rounded magnitude r from 1 to 2^63
 less-one : (r : ℕ) → 0 < r → negℤ (pos (r - 1)) -ℤ pos 1 ≡ negℤ (pos r)
@@ -110,10 +101,10 @@ pub near-spec : {M : Type 1} → statement M
 near-spec =
     tie.close
     (tie.spec
-    magnitude-requires
-    nearest-requires
+    (λ c κs. search needs)
+    (λ c κs. search needs)
     returns
-    sub-result
+    (λ c. search needs)
     cast-result
     sub-result-2
     sub-result-3

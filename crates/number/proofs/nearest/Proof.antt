@@ -12,12 +12,6 @@ use Rattle.number.proofs.nearest.Tie as tie
 returns : tie.Need-returns
 returns c = sym (ap (λ (b : ℕ). nearest (c .before .args .n) b) (c .if1 .taken) ∙ nearest-by-zero (c .before .args .n))
 
-div-q : tie.Need-div-q
-div-q c = search needs
-
-rem-r : tie.Need-rem-r
-rem-r c = search needs
-
 positive : (c : tie.Else1) → 0 < c .before .args .b
 positive c = pos-of-ne-zero (c .if1 .left)
 
@@ -44,4 +38,4 @@ returns-3 c =
     sym (nearest-down n b (omega (arith, mod-lt n (positive (c .before)))))
 
 pub nearest-spec : {M : Type 1} → statement M
-nearest-spec = tie.close (tie.spec returns div-q rem-r sub-if2 add-result returns-2 returns-3)
+nearest-spec = tie.close (tie.spec returns (λ c. search needs) (λ c. search needs) sub-if2 add-result returns-2 returns-3)

@@ -14,9 +14,6 @@ Inv-loop n x₀ x = (x < 2 ^ 32) × (n < (x + 1) * (x + 1))
 abbrev μ-loop : tie.MeasureT-loop
 μ-loop n x₀ x = x
 
-start-requires : tie.Need-start-requires Inv-loop μ-loop
-start-requires c κs = search needs
-
 loop-holds : tie.Need-loop-holds Inv-loop μ-loop
 loop-holds c = c .start .ensures
 
@@ -49,7 +46,7 @@ root-spec =
     (tie.spec
     Inv-loop
     μ-loop
-    start-requires
+    (λ c κs. search needs)
     loop-holds
     mul-loop
     div-x

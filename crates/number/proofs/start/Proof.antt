@@ -33,18 +33,6 @@ powers (suc k) l m =
       shr = pow-succ' 2 k;
     }
 
-half-width-requires : tie.Need-half-width-requires
-half-width-requires c κs = search needs
-
-sub-sum : tie.Need-sub-sum
-sub-sum c = search needs
-
-shl-sum : tie.Need-shl-sum
-shl-sum c = search needs
-
-shr-sum : tie.Need-shr-sum
-shr-sum c = search needs
-
 module _ (n e : ℕ) (l : 1 ≤ e) (m : e ≤ 32) where
   p : Powers e
   p = powers e l m
@@ -67,12 +55,6 @@ add-sum c = record { fits = omega (arith, sum (c .before .args .n) (c .half-widt
 add-sum-2 : tie.Need-add-sum-2
 add-sum-2 c = record { fits = sum (c .before .args .n) (c .half-width .result) (c .half-width .ensures .0) (c .half-width .ensures .1) (c .before .fits .n .fits) }
 
-returns : tie.Need-returns
-returns c = search needs
-
-mul-result : tie.Need-mul-result
-mul-result c = search needs
-
 returns-2 : tie.Need-returns-2
 returns-2 c =
     let k = c .before .half-width in
@@ -82,12 +64,12 @@ pub start-spec : {M : Type 1} → statement M
 start-spec =
     tie.close
     (tie.spec
-    half-width-requires
-    sub-sum
-    shl-sum
-    shr-sum
+    (λ c κs. search needs)
+    (λ c. search needs)
+    (λ c. search needs)
+    (λ c. search needs)
     add-sum
     add-sum-2
-    returns
-    mul-result
+    (λ c. search needs)
+    (λ c. search needs)
     returns-2)

@@ -28,13 +28,10 @@ no-nan (fin s m d) e = tt
 float-to-bits-whole-of-bits : tie.Need-float-to-bits-whole-of-bits
 float-to-bits-whole-of-bits c = no-nan (c .before .args .x) (c .if1 .left)
 
-whole-of-bits-requires : tie.Need-whole-of-bits-requires
-whole-of-bits-requires c κs = search needs
-
 returns-2 : tie.Need-returns-2
 returns-2 c =
     c .whole-of-bits .ensures
     ∙ ap (λ (x : Float). shown (wholeOf x)) (ofBits-toBits binary64 (c .before .before .args .x) (subst T (sym (c .before .before .good .0 .1)) tt))
 
 pub whole-spec : {M : Type 1} → statement M
-whole-spec = tie.close (tie.spec returns float-to-bits-whole-of-bits whole-of-bits-requires returns-2)
+whole-spec = tie.close (tie.spec returns float-to-bits-whole-of-bits (λ c κs. search needs) returns-2)

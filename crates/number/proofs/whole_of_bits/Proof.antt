@@ -48,18 +48,6 @@ zero-there b h = sym (zero-below (leb (2 ^ 63) b) (b % 9223372036854775808 / 450
 returns-3 : tie.Need-returns-3
 returns-3 c = zero-there (c .before .before .before .args .b) (c .if3 .taken)
 
-add-digits : tie.Need-add-digits
-add-digits c = search needs
-
-sub-nearest : tie.Need-sub-nearest
-sub-nearest c = search needs
-
-shl-nearest : tie.Need-shl-nearest
-shl-nearest c = search needs
-
-nearest-requires : tie.Need-nearest-requires
-nearest-requires c κs = search needs
-
 -- `1 << k` is 2^k, for a shift below 64
 one-shl : (k : ℕ) → k < 64 → (1 * 2 ^ k) % 2 ^ 64 ≡ 2 ^ k
 one-shl k h = shl-exact {a = 1} 1 k 64 (lit< tt) (rw (one-add k) h) ∙ one-mul (2 ^ k)
@@ -79,12 +67,6 @@ mid c = middle (c .before .before .before .before .args .b) (c .nearest .result)
 
 returns-4 : tie.Need-returns-4
 returns-4 c = sym (ap shown (mid (c .before)) ∙ shown-far (leb (2 ^ 63) (c .before .before .before .before .before .args .b)) (c .before .nearest .result) (c .if4 .taken))
-
-cast-t9 : tie.Need-cast-t9
-cast-t9 c = search needs
-
-cast-t10 : tie.Need-cast-t10
-cast-t10 c = search needs
 
 -- at most 2^30, as an i64
 value : (r : ℕ) → r ≤ 1073741824 → Va (toZ w64 r) (pos r) 1073741824
@@ -118,13 +100,13 @@ whole-of-bits-spec =
     returns
     returns-2
     returns-3
-    add-digits
-    sub-nearest
-    shl-nearest
-    nearest-requires
+    (λ c. search needs)
+    (λ c. search needs)
+    (λ c. search needs)
+    (λ c κs. search needs)
     returns-4
-    cast-t9
-    cast-t10
+    (λ c. search needs)
+    (λ c. search needs)
     sub-t11
     returns-5
     returns-6)

@@ -16,17 +16,8 @@ loop-holds c = c .pre
 returns : tie.Need-returns Inv-loop μ-loop
 returns c = (omega arith, omega arith)
 
-add-result : tie.Need-add-result Inv-loop μ-loop
-add-result c = omega arith
-
 returns-2 : tie.Need-returns-2 Inv-loop μ-loop
 returns-2 c = (omega arith, omega arith)
-
-add-e : tie.Need-add-e Inv-loop μ-loop
-add-e c = omega arith
-
-loop-less : tie.Need-loop-less Inv-loop μ-loop
-loop-less c = omega arith
 
 loop-again : tie.Need-loop-again Inv-loop μ-loop
 loop-again c = (omega arith, omega arith)
@@ -42,9 +33,9 @@ width-from-spec =
     μ-loop
     loop-holds
     returns
-    add-result
+    (λ c. omega arith)
     returns-2
-    add-e
-    loop-less
+    (λ c. omega arith)
+    (λ c. omega arith)
     loop-again
     returns-3)

@@ -32,9 +32,6 @@ told : (c : tie.After-unsigned-at) → ofBits binary64 (c .unsigned-at .result) 
 unfolding doubleAt
 told c = ap (ofBits binary64) (c .unsigned-at .ensures)
 
-unsigned-at-requires : tie.Need-unsigned-at-requires
-unsigned-at-requires c κs = search needs
-
 returns : tie.Need-returns
 returns c = at-nan (c .before .unsigned-at .result) (c .if1 .taken) ∙ told (c .before)
 
@@ -45,4 +42,4 @@ returns-2 : tie.Need-returns-2
 returns-2 c = told (c .before)
 
 pub double-at-spec : {M : Type 1} → statement M
-double-at-spec = tie.close (tie.spec unsigned-at-requires returns float-from-bits-result returns-2)
+double-at-spec = tie.close (tie.spec (λ c κs. search needs) returns float-from-bits-result returns-2)

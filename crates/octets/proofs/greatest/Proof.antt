@@ -13,12 +13,6 @@ use Rattle.octets.proofs.greatest.Tie as tie
 shifted : (n : ℕ) → n < 8 → (1 * 2 ^ (8 * n)) % 2 ^ 64 ≡ 256 ^ n
 shifted n h = shl-exact {a = 1} 1 (8 * n) 64 (lit< tt) (omega arith) ∙ one-mul (2 ^ (8 * n)) ∙ eights n
 
-mul-result : tie.Need-mul-result
-mul-result c = search needs
-
-shl-result : tie.Need-shl-result
-shl-result c = search needs
-
 sub-result : tie.Need-sub-result
 sub-result c = rw (shifted (c .before .args .n) (c .if1 .taken)) (one-le-pow (c .before .args .n) 256 (lit< tt))
 
@@ -33,4 +27,4 @@ returns-2 c =
     ap (λ (k : ℕ). 256 ^ k - 1) e
 
 pub greatest-spec : {M : Type 1} → statement M
-greatest-spec = tie.close (tie.spec mul-result shl-result sub-result returns returns-2)
+greatest-spec = tie.close (tie.spec (λ c. search needs) (λ c. search needs) sub-result returns returns-2)

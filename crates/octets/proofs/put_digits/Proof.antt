@@ -45,31 +45,10 @@ some out last at room k n u w r i l e =
     ∙ sym (clipped out at room (k - room) u (omega arith))
     ∙ ap (λ (x : ℕ). splice out at (digitsOf x u)) (s ∙ w)
 
-width-requires : tie.Need-width-requires
-width-requires c κs = search needs
-
 returns : tie.Need-returns
 returns c =
     let a = c .before .before .before .args in
     nowhere (a .out .now) (a .at) (min (a .n) 8) (a .u) (c .if1 .taken)
-
-sub-room : tie.Need-sub-room
-sub-room c = search needs
-
-sub-put-run : tie.Need-sub-put-run
-sub-put-run c = search needs
-
-mul-put-run : tie.Need-mul-put-run
-mul-put-run c = search needs
-
-shr-put-run : tie.Need-shr-put-run
-shr-put-run c = search needs
-
-put-run-requires : tie.Need-put-run-requires
-put-run-requires c κs = search needs
-
-same-length : tie.Need-same-length
-same-length c = search needs
 
 returns-2 : tie.Need-returns-2
 returns-2 c =
@@ -79,12 +58,6 @@ returns-2 c =
     let a = w .before .before .args in
     some (a .out .now) (p .put-run .last .0) (a .at) (length (a .out .now) - a .at) (w .width .result) (a .n) (a .u)
     (w .width .ensures) refl (omega (arith, t .before .if1 .left)) (omega (arith, t .if2 .taken)) (p .put-run .ensures)
-
-put-run-requires-2 : tie.Need-put-run-requires-2
-put-run-requires-2 c κs = search needs
-
-same-length-2 : tie.Need-same-length-2
-same-length-2 c = search needs
 
 returns-3 : tie.Need-returns-3
 returns-3 c =
@@ -97,15 +70,15 @@ pub put-digits-spec : {M : Type 1} → statement M
 put-digits-spec =
     tie.close
     (tie.spec
-    width-requires
+    (λ c κs. search needs)
     returns
-    sub-room
-    sub-put-run
-    mul-put-run
-    shr-put-run
-    put-run-requires
-    same-length
+    (λ c. search needs)
+    (λ c. search needs)
+    (λ c. search needs)
+    (λ c. search needs)
+    (λ c κs. search needs)
+    (λ c. search needs)
     returns-2
-    put-run-requires-2
-    same-length-2
+    (λ c κs. search needs)
+    (λ c. search needs)
     returns-3)

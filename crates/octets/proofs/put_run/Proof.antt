@@ -39,20 +39,8 @@ abbrev μ-loop : tie.MeasureT-loop
 loop-holds : tie.Need-loop-holds Inv-loop μ-loop
 loop-holds c = (omega arith, (refl, refl))
 
-sub-left : tie.Need-sub-left Inv-loop μ-loop
-sub-left c = search needs
-
-cast-out : tie.Need-cast-out Inv-loop μ-loop
-cast-out c = search needs
-
-add-out : tie.Need-add-out Inv-loop μ-loop
-add-out c = search needs
-
 slice-write-out : tie.Need-slice-write-out Inv-loop μ-loop
 slice-write-out c = omega (arith, c .before .before .pre, c .before .loop .inv .0, c .before .loop .inv .1 .0, c .loop-test .taken)
-
-loop-less : tie.Need-loop-less Inv-loop μ-loop
-loop-less c = search needs
 
 loop-again : tie.Need-loop-again Inv-loop μ-loop
 loop-again c =
@@ -83,11 +71,11 @@ put-run-spec =
     Inv-loop
     μ-loop
     loop-holds
-    sub-left
-    cast-out
-    add-out
+    (λ c. search needs)
+    (λ c. search needs)
+    (λ c. search needs)
     slice-write-out
-    loop-less
+    (λ c. search needs)
     loop-again
     same-length
     returns)

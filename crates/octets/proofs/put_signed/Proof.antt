@@ -9,15 +9,6 @@ use Rattle.octets.proofs.DigitLaws.{digits-residue}
 use Rattle.octets.proofs.put_signed.Statement.{statement}
 use Rattle.octets.proofs.put_signed.Tie as tie
 
-pattern-requires : tie.Need-pattern-requires
-pattern-requires c κs = search needs
-
-put-digits-requires : tie.Need-put-digits-requires
-put-digits-requires c κs = search needs
-
-same-length : tie.Need-same-length
-same-length c = search needs
-
 returns : tie.Need-returns
 returns c =
     let start = c .before .before .before .before .before .before in
@@ -29,4 +20,4 @@ returns c =
     ∙ ap (splice (a .out .now) (a .at)) (digits-residue (min (a .n) 8) 8 (a .z) m)
 
 pub put-signed-spec : {M : Type 1} → statement M
-put-signed-spec = tie.close (tie.spec pattern-requires put-digits-requires same-length returns)
+put-signed-spec = tie.close (tie.spec (λ c κs. search needs) (λ c κs. search needs) (λ c. search needs) returns)

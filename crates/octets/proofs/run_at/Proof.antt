@@ -51,12 +51,6 @@ mul-value c = omega (arith, c .before .loop .inv .1, room-at c)
 add-byte-at : tie.Need-add-byte-at Inv-loop μ-loop
 add-byte-at c = omega (arith, c .before .before .before .pre .0, c .before .before .before .pre .1)
 
-byte-at-requires : tie.Need-byte-at-requires Inv-loop μ-loop
-byte-at-requires c κs = search needs
-
-cast-value : tie.Need-cast-value Inv-loop μ-loop
-cast-value c = search needs
-
 -- the byte, counted from the run's first
 byte : (s : List ℕ) (at skip i b : ℕ) → b ≡ getD s (at + (skip + i)) 0 → b ≡ getD s (at + skip + i) 0
 byte s at skip i b e = e ∙ ap (λ (k : ℕ). getD s k 0) (omega arith)
@@ -69,12 +63,6 @@ byte-is c =
 
 add-value : tie.Need-add-value Inv-loop μ-loop
 add-value c = omega (arith, c .before .before .loop .inv .1, byte-is c, room-at (c .before))
-
-add-i : tie.Need-add-i Inv-loop μ-loop
-add-i c = search needs
-
-loop-less : tie.Need-loop-less Inv-loop μ-loop
-loop-less c = search needs
 
 loop-again : tie.Need-loop-again Inv-loop μ-loop
 loop-again c =
@@ -97,10 +85,10 @@ run-at-spec =
     loop-holds
     mul-value
     add-byte-at
-    byte-at-requires
-    cast-value
+    (λ c κs. search needs)
+    (λ c. search needs)
     add-value
-    add-i
-    loop-less
+    (λ c. search needs)
+    (λ c. search needs)
     loop-again
     returns)

@@ -60,17 +60,8 @@ told : (c : tie.After-greatest)
 unfolding signedAt
 told c = ap (signedOf (min (c .before .before .before .args .n) 8)) (c .before .unsigned-at .ensures)
 
-unsigned-at-requires : tie.Need-unsigned-at-requires
-unsigned-at-requires c κs = search needs
-
-greatest-requires : tie.Need-greatest-requires
-greatest-requires c κs = search needs
-
 sub-if1 : tie.Need-sub-if1
 sub-if1 c = omega (arith, known c)
-
-cast-result : tie.Need-cast-result
-cast-result c = search needs
 
 returns : tie.Need-returns
 returns c =
@@ -81,9 +72,6 @@ returns c =
 
 sub-result : tie.Need-sub-result
 sub-result c = omega (arith, known (c .before))
-
-cast-result-2 : tie.Need-cast-result-2
-cast-result-2 c = search needs
 
 gap : (c : tie.Else1) → c .before .greatest .result - c .before .before .unsigned-at .result < 2 ^ 63
 gap c = omega (arith, known (c .before))
@@ -107,13 +95,13 @@ pub signed-at-spec : {M : Type 1} → statement M
 signed-at-spec =
     tie.close
     (tie.spec
-    unsigned-at-requires
-    greatest-requires
+    (λ c κs. search needs)
+    (λ c κs. search needs)
     sub-if1
-    cast-result
+    (λ c. search needs)
     returns
     sub-result
-    cast-result-2
+    (λ c. search needs)
     sub-result-2
     sub-result-3
     returns-2)

@@ -14,17 +14,11 @@ use Rattle.octets.proofs.unsigned_at.Tie as tie
 from-start : (s : List ℕ) (at n r : ℕ) → r ≡ unsignedAt s (at + 0) n → r ≡ unsignedAt s at n
 from-start s at n r e = e ∙ ap (λ (k : ℕ). unsignedAt s k n) (add-zero at)
 
-run-at-requires : tie.Need-run-at-requires
-run-at-requires c κs = search needs
-
 returns : tie.Need-returns
 returns c =
     let a = c .before .before .before .args in
     let e : a .n ≡ min (a .n) 8 = omega arith in
     from-start (a .s .now) (a .at) (a .n) (c .run-at .result) (c .run-at .ensures) ∙ ap (unsignedAt (a .s .now) (a .at)) e
-
-run-at-requires-2 : tie.Need-run-at-requires-2
-run-at-requires-2 c κs = search needs
 
 four : (s : List ℕ) (at r : ℕ) → Bytes s → r ≡ unsignedAt s at 4 → r < 2 ^ 32
 four s at r b e = rw e (unsigned-lt s at 4 b)
@@ -33,9 +27,6 @@ mul-result : tie.Need-mul-result
 mul-result c =
     let k = c .before .before in
     record { fits = omega (arith, four (k .before .args .s .now) (k .before .args .at + 0) (c .run-at2 .result) (λ i. omega (arith, k .shared-slice-known .given i)) (c .run-at2 .ensures)) }
-
-run-at-requires-3 : tie.Need-run-at-requires-3
-run-at-requires-3 c κs = search needs
 
 add-result : tie.Need-add-result
 add-result c =
@@ -57,10 +48,10 @@ pub unsigned-at-spec : {M : Type 1} → statement M
 unsigned-at-spec =
     tie.close
     (tie.spec
-    run-at-requires
+    (λ c κs. search needs)
     returns
-    run-at-requires-2
+    (λ c κs. search needs)
     mul-result
-    run-at-requires-3
+    (λ c κs. search needs)
     add-result
     returns-2)

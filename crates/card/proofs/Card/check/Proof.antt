@@ -4,11 +4,8 @@ use Rattle.card.proofs.StepLaws.{number-is}
 use Rattle.card.proofs.Card.check.Statement.{statement}
 use Rattle.card.proofs.Card.check.Tie as tie
 
-number-requires : tie.Need-number-requires
-number-requires c κs = search needs
-
 returns : tie.Need-returns
 returns c = number-is (c .before .args .self) (c .number .result) (c .number .ensures)
 
 pub check-spec : {M : Type 1} → statement M
-check-spec = tie.close (tie.spec number-requires returns)
+check-spec = tie.close (tie.spec (λ c κs. search needs) returns)

@@ -58,9 +58,6 @@ same z h = at (plain z h) (lit< tt) .told
 asks : (z : ℤ) → natAbs z ≤ 1461000000000 → natAbs (rd z) ≤ 1461000000000
 asks z h = omega (arith, ap natAbs (same z h))
 
-number-requires : tie.Need-number-requires
-number-requires c κs = search needs
-
 returns : tie.Need-returns
 returns c =
     let a = c .before .before .args .self in
@@ -94,7 +91,7 @@ pub metres-out-spec : {M : Type 1} → statement M
 metres-out-spec =
     tie.close
     (tie.spec
-    number-requires
+    (λ c κs. search needs)
     returns
     from-mark-requires
     in-metres-requires

@@ -9,9 +9,6 @@ use Rattle.card.proofs.StepLaws.{step-refused, step-accepted, number-pa
 use Rattle.card.proofs.Card.move_by.Statement.{statement}
 use Rattle.card.proofs.Card.move_by.Tie as tie
 
-number-requires : tie.Need-number-requires
-number-requires c κs = search needs
-
 returns : tie.Need-returns
 returns c =
     let a = c .before .before .args in
@@ -28,4 +25,4 @@ returns-2 c =
     ∙ step-accepted (a .self) (move (a .d)) (n .number .result) (n .number .ensures) (c .before .if1 .left)
 
 pub move-by-spec : {M : Type 1} → statement M
-move-by-spec = tie.close (tie.spec number-requires returns moved-requires returns-2)
+move-by-spec = tie.close (tie.spec (λ c κs. search needs) returns moved-requires returns-2)

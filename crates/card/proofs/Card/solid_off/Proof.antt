@@ -6,9 +6,6 @@ use Rattle.card.proofs.StepLaws.{step-refused, step-accepted, number-pa
 use Rattle.card.proofs.Card.solid_off.Statement.{statement}
 use Rattle.card.proofs.Card.solid_off.Tie as tie
 
-number-requires : tie.Need-number-requires
-number-requires c κs = search needs
-
 returns : tie.Need-returns
 returns c =
     let a = c .before .before .args in
@@ -25,4 +22,4 @@ returns-2 c =
     ∙ step-accepted (a .self) solidOff (n .number .result) (n .number .ensures) (c .before .if1 .left)
 
 pub solid-off-spec : {M : Type 1} → statement M
-solid-off-spec = tie.close (tie.spec number-requires returns solid-taken-requires returns-2)
+solid-off-spec = tie.close (tie.spec (λ c κs. search needs) returns solid-taken-requires returns-2)

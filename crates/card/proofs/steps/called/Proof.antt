@@ -35,41 +35,8 @@ module _ (c : Card) (k : declared.Call) where
   is-solid-off : k ≡ Is.SolidOff → after c solidOff ≡ after c (callOf k)
   is-solid-off e = sym (ap (λ (x : declared.Call). after c (callOf x)) e)
 
-enum-known-k : tie.Need-enum-known-k
-enum-known-k c = search needs
-
-moved-requires : tie.Need-moved-requires
-moved-requires c κs = search needs
-
-enum-known-k-2 : tie.Need-enum-known-k-2
-enum-known-k-2 c = search needs
-
-reframed-requires : tie.Need-reframed-requires
-reframed-requires c κs = search needs
-
 enum-told : tie.Need-enum-told
 enum-told c = search needs
-
-mean-added-requires : tie.Need-mean-added-requires
-mean-added-requires c κs = search needs
-
-enum-told-2 : tie.Need-enum-told-2
-enum-told-2 c = search needs
-
-mean-taken-requires : tie.Need-mean-taken-requires
-mean-taken-requires c κs = search needs
-
-enum-known-k-3 : tie.Need-enum-known-k-3
-enum-known-k-3 c = search needs
-
-solid-added-requires : tie.Need-solid-added-requires
-solid-added-requires c κs = search needs
-
-enum-told-3 : tie.Need-enum-told-3
-enum-told-3 c = search needs
-
-solid-taken-requires : tie.Need-solid-taken-requires
-solid-taken-requires c κs = search needs
 
 returns : tie.Need-returns
 returns c =
@@ -112,18 +79,18 @@ pub called-spec : {M : Type 1} → statement M
 called-spec =
     tie.close
     (tie.spec
-    enum-known-k
-    moved-requires
-    enum-known-k-2
-    reframed-requires
+    (λ c. search needs)
+    (λ c κs. search needs)
+    (λ c. search needs)
+    (λ c κs. search needs)
     enum-told
-    mean-added-requires
-    enum-told-2
-    mean-taken-requires
-    enum-known-k-3
-    solid-added-requires
-    enum-told-3
-    solid-taken-requires
+    (λ c κs. search needs)
+    (λ c. search needs)
+    (λ c κs. search needs)
+    (λ c. search needs)
+    (λ c κs. search needs)
+    (λ c. search needs)
+    (λ c κs. search needs)
     returns
     returns-2
     returns-3

@@ -21,36 +21,9 @@ whole : (s site : List ℕ) (e : ℤ) (a b c d : Vec3) → site ≡ siteOf s →
 unfolding decode siteOf
 whole s site e a b c d h k p q r u = cc
 
-refused-requires : tie.Need-refused-requires
-refused-requires c κs = search needs
-
 -- the length is 88
 returns : tie.Need-returns
 returns c = absurd (c .before .before .if1 .taken (c .before .before .before .before .pre))
-
-site-of-requires : tie.Need-site-of-requires
-site-of-requires c κs = search needs
-
-shared-slice-read-t7 : tie.Need-shared-slice-read-t7
-shared-slice-read-t7 c = search needs
-
-shared-slice-read-t9 : tie.Need-shared-slice-read-t9
-shared-slice-read-t9 c = search needs
-
-signed-at-requires : tie.Need-signed-at-requires
-signed-at-requires c κs = search needs
-
-vector-at-requires : tie.Need-vector-at-requires
-vector-at-requires c κs = search needs
-
-vector-at-requires-2 : tie.Need-vector-at-requires-2
-vector-at-requires-2 c κs = search needs
-
-vector-at-requires-3 : tie.Need-vector-at-requires-3
-vector-at-requires-3 c κs = search needs
-
-vector-at-requires-4 : tie.Need-vector-at-requires-4
-vector-at-requires-4 c κs = search needs
 
 returns-2 : tie.Need-returns-2
 returns-2 c =
@@ -69,14 +42,14 @@ pub decode-spec : {M : Type 1} → statement M
 decode-spec =
     tie.close
     (tie.spec
-    refused-requires
+    (λ c κs. search needs)
     returns
-    site-of-requires
-    shared-slice-read-t7
-    shared-slice-read-t9
-    signed-at-requires
-    vector-at-requires
-    vector-at-requires-2
-    vector-at-requires-3
-    vector-at-requires-4
+    (λ c κs. search needs)
+    (λ c. search needs)
+    (λ c. search needs)
+    (λ c κs. search needs)
+    (λ c κs. search needs)
+    (λ c κs. search needs)
+    (λ c κs. search needs)
+    (λ c κs. search needs)
     returns-2)

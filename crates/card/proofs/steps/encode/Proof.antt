@@ -24,27 +24,6 @@ all : (s a b m v p t : List ℕ) (c : Card) → length s ≡ 88 → length (c .s
     → t ≡ encode c
 all s a b m v p t c l n e₁ e₂ e₃ e₄ e₅ e₆ = cc (put-card s c l n)
 
-put-head-requires : tie.Need-put-head-requires
-put-head-requires c κs = search needs
-
-put-signed-requires : tie.Need-put-signed-requires
-put-signed-requires c κs = search needs
-
-put-vector-requires : tie.Need-put-vector-requires
-put-vector-requires c κs = search needs
-
-put-vector-requires-2 : tie.Need-put-vector-requires-2
-put-vector-requires-2 c κs = search needs
-
-put-vector-requires-3 : tie.Need-put-vector-requires-3
-put-vector-requires-3 c κs = search needs
-
-put-vector-requires-4 : tie.Need-put-vector-requires-4
-put-vector-requires-4 c κs = search needs
-
-same-length : tie.Need-same-length
-same-length c = search needs
-
 returns : tie.Need-returns
 returns c =
     let p4 = c .before .before in
@@ -68,11 +47,11 @@ pub encode-spec : {M : Type 1} → statement M
 encode-spec =
     tie.close
     (tie.spec
-    put-head-requires
-    put-signed-requires
-    put-vector-requires
-    put-vector-requires-2
-    put-vector-requires-3
-    put-vector-requires-4
-    same-length
+    (λ c κs. search needs)
+    (λ c κs. search needs)
+    (λ c κs. search needs)
+    (λ c κs. search needs)
+    (λ c κs. search needs)
+    (λ c κs. search needs)
+    (λ c. search needs)
     returns)

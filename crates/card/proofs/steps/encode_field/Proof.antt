@@ -47,36 +47,6 @@ from-mark-requires c κs =
       passes (is-sized 10000000000000000 (card .position) (position-size (card .mark) (card .position) (p .mark) (p .position))),
     )
 
-rounded-requires : tie.Need-rounded-requires
-rounded-requires c κs = search needs
-
-rounded-requires-2 : tie.Need-rounded-requires-2
-rounded-requires-2 c κs = search needs
-
-put-head-requires : tie.Need-put-head-requires
-put-head-requires c κs = search needs
-
-put-signed-requires : tie.Need-put-signed-requires
-put-signed-requires c κs = search needs
-
-put-vector-requires : tie.Need-put-vector-requires
-put-vector-requires c κs = search needs
-
-put-vector-requires-2 : tie.Need-put-vector-requires-2
-put-vector-requires-2 c κs = search needs
-
-put-vector-requires-3 : tie.Need-put-vector-requires-3
-put-vector-requires-3 c κs = search needs
-
-slice-aggregate-put-bytes : tie.Need-slice-aggregate-put-bytes
-slice-aggregate-put-bytes c = search needs
-
-put-bytes-requires : tie.Need-put-bytes-requires
-put-bytes-requires c κs = search needs
-
-same-length : tie.Need-same-length
-same-length c = search needs
-
 returns : tie.Need-returns
 returns c =
     let pb = c .before .before in
@@ -107,14 +77,14 @@ encode-field-spec =
     tie.close
     (tie.spec
     from-mark-requires
-    rounded-requires
-    rounded-requires-2
-    put-head-requires
-    put-signed-requires
-    put-vector-requires
-    put-vector-requires-2
-    put-vector-requires-3
-    slice-aggregate-put-bytes
-    put-bytes-requires
-    same-length
+    (λ c κs. search needs)
+    (λ c κs. search needs)
+    (λ c κs. search needs)
+    (λ c κs. search needs)
+    (λ c κs. search needs)
+    (λ c κs. search needs)
+    (λ c κs. search needs)
+    (λ c. search needs)
+    (λ c κs. search needs)
+    (λ c. search needs)
     returns)

@@ -9,9 +9,6 @@ use Rattle.card.specs.Checks.{epochFits}
 use Rattle.card.proofs.steps.epoch_fits.Statement.{statement}
 use Rattle.card.proofs.steps.epoch_fits.Tie as tie
 
-magnitude-requires : tie.Need-magnitude-requires
-magnitude-requires c κs = search needs
-
 named : (r : ℕ) (e : ℤ) → r ≡ natAbs e → leb r 146100 ≡ epochFits e
 unfolding epochFits
 named r e h = ap (λ (k : ℕ). leb k 146100) h
@@ -20,4 +17,4 @@ returns : tie.Need-returns
 returns c = named (c .magnitude .result) (c .before .args .e) (c .magnitude .ensures ∙ ap natAbs (toZ-ofZ (c .before .fits .e)))
 
 pub epoch-fits-spec : {M : Type 1} → statement M
-epoch-fits-spec = tie.close (tie.spec magnitude-requires returns)
+epoch-fits-spec = tie.close (tie.spec (λ c κs. search needs) returns)

@@ -24,9 +24,6 @@ shift c =
 returns : tie.Need-returns
 returns c = mean-on-tide (c .before .before .args .c) (c .if1 .taken)
 
-permanent-requires : tie.Need-permanent-requires
-permanent-requires c κs = search needs
-
 plus-requires : tie.Need-plus-requires
 plus-requires c κs = (
   within-sized (widen (small (c .before .before .before) .position) (lit≤ tt)),
@@ -45,4 +42,4 @@ returns-2 c =
     ∙ mean-on-placed a (c .before .before .before .if1 .left)
 
 pub mean-added-spec : {M : Type 1} → statement M
-mean-added-spec = tie.close (tie.spec returns permanent-requires plus-requires placed-requires returns-2)
+mean-added-spec = tie.close (tie.spec returns (λ c κs. search needs) plus-requires placed-requires returns-2)

@@ -44,9 +44,6 @@ fits-is c = c .position-fits .ensures ∙ ap (positionFits (c .before .before .b
 returns : tie.Need-returns
 returns c = moved-tide (c .before .before .args .c) (c .before .before .args .d) (c .if1 .taken)
 
-magnitude-requires : tie.Need-magnitude-requires
-magnitude-requires c κs = search needs
-
 returns-2 : tie.Need-returns-2
 returns-2 c =
     let s = c .before .before .before .before in
@@ -55,9 +52,6 @@ returns-2 c =
 
 add-epoch : tie.Need-add-epoch
 add-epoch c = fit (later c) (lit< tt)
-
-epoch-fits-requires : tie.Need-epoch-fits-requires
-epoch-fits-requires c κs = search needs
 
 returns-3 : tie.Need-returns-3
 returns-3 c =
@@ -104,10 +98,10 @@ moved-spec =
     tie.close
     (tie.spec
     returns
-    magnitude-requires
+    (λ c κs. search needs)
     returns-2
     add-epoch
-    epoch-fits-requires
+    (λ c κs. search needs)
     returns-3
     scaled-requires
     plus-requires

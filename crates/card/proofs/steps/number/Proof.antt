@@ -60,12 +60,6 @@ solid-is c = refl
 
 -- ---- the tests
 
-slice-aggregate-site-shape : tie.Need-slice-aggregate-site-shape
-slice-aggregate-site-shape c = search needs
-
-site-shape-requires : tie.Need-site-shape-requires
-site-shape-requires c κs = search needs
-
 ok1 : (c : tie.Else1) → siteShape (c .before .before .before .before .args .c .site) ≡ true
 ok1 c = sym (c .before .site-shape .ensures) ∙ not-false (c .before .site-shape .result) (c .if1 .left)
 
@@ -102,9 +96,6 @@ on3 c = on2 (c .before)
 returns-3 : tie.Need-returns-3
 returns-3 c = stopped 4 (c .before .before .before .before .before .before .before .args .zeros && tideFits (c .before .before .before .before .before .before .before .args .c .tide) (c .before .before .before .before .before .before .before .args .c .solid)) (from5 (c .before .before .before .before .before .before .before .args .zeros) (c .before .before .before .before .before .before .before .args .c)) (and-first (c .before .before .before .before .before .before .before .args .zeros) (tideFits (c .before .before .before .before .before .before .before .args .c .tide) (c .before .before .before .before .before .before .before .args .c .solid)) (bad3 c)) ∙ on2 (c .before)
 
-tide-fits-requires : tie.Need-tide-fits-requires
-tide-fits-requires c κs = search needs
-
 ok4 : (c : tie.Else4) → tideFits (c .before .before .before .before .before .before .before .before .before .args .c .tide) (c .before .before .before .before .before .before .before .before .before .args .c .solid) ≡ true
 ok4 c = sym (c .before .tide-fits .ensures) ∙ not-false (c .before .tide-fits .result) (c .if4 .left)
 
@@ -116,9 +107,6 @@ on4 c = passed 4 (c .before .before .before .before .before .before .before .bef
 
 returns-4 : tie.Need-returns-4
 returns-4 c = stopped 4 (c .before .before .before .before .before .before .before .before .before .args .zeros && tideFits (c .before .before .before .before .before .before .before .before .before .args .c .tide) (c .before .before .before .before .before .before .before .before .before .args .c .solid)) (from5 (c .before .before .before .before .before .before .before .before .before .args .zeros) (c .before .before .before .before .before .before .before .before .before .args .c)) (and-second (c .before .before .before .before .before .before .before .before .before .args .zeros) (tideFits (c .before .before .before .before .before .before .before .before .before .args .c .tide) (c .before .before .before .before .before .before .before .before .before .args .c .solid)) (bad4 c)) ∙ on3 (c .before .before)
-
-epoch-fits-requires : tie.Need-epoch-fits-requires
-epoch-fits-requires c κs = search needs
 
 ok5 : (c : tie.Else5) → epochFits (c .before .before .before .before .before .before .before .before .before .before .before .before .args .c .epoch) ≡ true
 ok5 c = sym (c .before .epoch-fits .ensures ∙ ap epochFits (toZ-ofZ (record { sfits = c .before .before .struct-told .given .1 .1 .1 .0 .1 }))) ∙ not-false (c .before .epoch-fits .result) (c .if5 .left)
@@ -132,9 +120,6 @@ on5 c = passed 5 (epochFits (c .before .before .before .before .before .before .
 returns-5 : tie.Need-returns-5
 returns-5 c = stopped 5 (epochFits (c .before .before .before .before .before .before .before .before .before .before .before .before .args .c .epoch)) (from6 (c .before .before .before .before .before .before .before .before .before .before .before .before .args .zeros) (c .before .before .before .before .before .before .before .before .before .before .before .before .args .c)) (bad5 c) ∙ on4 (c .before .before .before)
 
-check-mark-requires : tie.Need-check-mark-requires
-check-mark-requires c κs = search needs
-
 ok6 : (c : tie.Else6) → marked (c .before .before .before .before .before .before .before .before .before .before .before .before .before .before .args .c .mark) ≡ true
 ok6 c = mark-accepted (c .before .before .before .before .before .before .before .before .before .before .before .before .before .before .args .c .mark) (c .before .check-mark .result) (c .before .check-mark .ensures) (c .if6 .left)
 
@@ -146,9 +131,6 @@ on6 c = passed 6 (marked (c .before .before .before .before .before .before .bef
 
 returns-6 : tie.Need-returns-6
 returns-6 c = stopped 6 (marked (c .before .before .before .before .before .before .before .before .before .before .before .before .before .before .args .c .mark)) (from7 (c .before .before .before .before .before .before .before .before .before .before .before .before .before .before .args .zeros) (c .before .before .before .before .before .before .before .before .before .before .before .before .before .before .args .c)) (bad6 c) ∙ on5 (c .before .before)
-
-sized-requires : tie.Need-sized-requires
-sized-requires c κs = search needs
 
 ok7 : (c : tie.Else7) → velocityFits (c .before .before .before .before .before .before .before .before .before .before .before .before .before .before .before .before .args .c .velocity) ≡ true
 ok7 c = sym (c .before .sized .ensures ∙ velocity-is (c .before .before .before .before .before .before .before .before .before .before .before .before .before .before .before .before .args .c)) ∙ not-false (c .before .sized .result) (c .if7 .left)
@@ -177,9 +159,6 @@ on8 c = passed 8 (positionFits (c .before .before .before .before .before .befor
 returns-8 : tie.Need-returns-8
 returns-8 c = stopped 8 (positionFits (c .before .before .before .before .before .before .before .before .before .before .before .before .before .before .before .before .before .before .args .c .mark) (c .before .before .before .before .before .before .before .before .before .before .before .before .before .before .before .before .before .before .args .c .position)) (from9 (c .before .before .before .before .before .before .before .before .before .before .before .before .before .before .before .before .before .before .args .zeros) (c .before .before .before .before .before .before .before .before .before .before .before .before .before .before .before .before .before .before .args .c)) (bad8 c) ∙ on7 (c .before .before)
 
-sized-requires-2 : tie.Need-sized-requires-2
-sized-requires-2 c κs = search needs
-
 ok9 : (c : tie.Else9) → vectorFits (c .before .before .before .before .before .before .before .before .before .before .before .before .before .before .before .before .before .before .before .before .args .c .solid) ≡ true
 ok9 c = sym (c .before .sized2 .ensures ∙ solid-is (c .before .before .before .before .before .before .before .before .before .before .before .before .before .before .before .before .before .before .before .before .args .c)) ∙ not-false (c .before .sized2 .result) (c .if9 .left)
 
@@ -203,21 +182,21 @@ pub number-spec : {M : Type 1} → statement M
 number-spec =
     tie.close
     (tie.spec
-    slice-aggregate-site-shape
-    site-shape-requires
+    (λ c. search needs)
+    (λ c κs. search needs)
     returns
     returns-2
     returns-3
-    tide-fits-requires
+    (λ c κs. search needs)
     returns-4
-    epoch-fits-requires
+    (λ c κs. search needs)
     returns-5
-    check-mark-requires
+    (λ c κs. search needs)
     returns-6
-    sized-requires
+    (λ c κs. search needs)
     returns-7
     position-fits-requires
     returns-8
-    sized-requires-2
+    (λ c κs. search needs)
     returns-9
     returns-10)

@@ -21,27 +21,6 @@ whole : (s site : List ℕ) (e : ℤ) (a b c : Vec3) → site ≡ siteOf s → e
 unfolding openedOf siteOf
 whole s site e a b c h k p q r = cc
 
-site-of-requires : tie.Need-site-of-requires
-site-of-requires c κs = search needs
-
-shared-slice-read-t4 : tie.Need-shared-slice-read-t4
-shared-slice-read-t4 c = search needs
-
-shared-slice-read-t6 : tie.Need-shared-slice-read-t6
-shared-slice-read-t6 c = search needs
-
-signed-at-requires : tie.Need-signed-at-requires
-signed-at-requires c κs = search needs
-
-vector-at-requires : tie.Need-vector-at-requires
-vector-at-requires c κs = search needs
-
-vector-at-requires-2 : tie.Need-vector-at-requires-2
-vector-at-requires-2 c κs = search needs
-
-vector-at-requires-3 : tie.Need-vector-at-requires-3
-vector-at-requires-3 c κs = search needs
-
 returns : tie.Need-returns
 returns c =
     let epoch = c .before .before .before .signed-at in
@@ -58,11 +37,11 @@ pub open-spec : {M : Type 1} → statement M
 open-spec =
     tie.close
     (tie.spec
-    site-of-requires
-    shared-slice-read-t4
-    shared-slice-read-t6
-    signed-at-requires
-    vector-at-requires
-    vector-at-requires-2
-    vector-at-requires-3
+    (λ c κs. search needs)
+    (λ c. search needs)
+    (λ c. search needs)
+    (λ c κs. search needs)
+    (λ c κs. search needs)
+    (λ c κs. search needs)
+    (λ c κs. search needs)
     returns)

@@ -49,12 +49,6 @@ whole z f = refl
 
 -- ---- the tests
 
-slice-aggregate-site-shape : tie.Need-slice-aggregate-site-shape
-slice-aggregate-site-shape c = search needs
-
-site-shape-requires : tie.Need-site-shape-requires
-site-shape-requires c κs = search needs
-
 ok1 : (c : tie.Else1) → siteShape (c .before .before .before .before .args .f .site) ≡ true
 ok1 c = sym (c .before .site-shape .ensures) ∙ not-false (c .before .site-shape .result) (c .if1 .left)
 
@@ -103,9 +97,6 @@ on4 c = passed 4 (c .before .before .before .before .before .before .before .bef
 returns-4 : tie.Need-returns-4
 returns-4 c = stopped 4 (c .before .before .before .before .before .before .before .before .before .args .zeros && leb (c .before .before .before .before .before .before .before .before .before .args .f .tide) 1) (from5 (c .before .before .before .before .before .before .before .before .before .args .zeros) (c .before .before .before .before .before .before .before .before .before .args .f)) (and-second (c .before .before .before .before .before .before .before .before .before .args .zeros) (leb (c .before .before .before .before .before .before .before .before .before .args .f .tide) 1) (bad4 c)) ∙ on3 (c .before .before)
 
-epoch-fits-requires : tie.Need-epoch-fits-requires
-epoch-fits-requires c κs = search needs
-
 ok5 : (c : tie.Else5) → epochFits (c .before .before .before .before .before .before .before .before .before .before .before .before .args .f .epoch) ≡ true
 ok5 c = sym (c .before .epoch-fits .ensures ∙ ap epochFits (toZ-ofZ (record { sfits = c .before .before .struct-told .given .1 .1 .1 .0 .1 }))) ∙ not-false (c .before .epoch-fits .result) (c .if5 .left)
 
@@ -117,9 +108,6 @@ on5 c = passed 5 (epochFits (c .before .before .before .before .before .before .
 
 returns-5 : tie.Need-returns-5
 returns-5 c = stopped 5 (epochFits (c .before .before .before .before .before .before .before .before .before .before .before .before .args .f .epoch)) (from6 (c .before .before .before .before .before .before .before .before .before .before .before .before .args .zeros) (c .before .before .before .before .before .before .before .before .before .before .before .before .args .f)) (bad5 c) ∙ on4 (c .before .before .before)
-
-check-mark-requires : tie.Need-check-mark-requires
-check-mark-requires c κs = search needs
 
 ok6 : (c : tie.Else6) → marked (c .before .before .before .before .before .before .before .before .before .before .before .before .before .before .args .f .mark) ≡ true
 ok6 c = mark-accepted (c .before .before .before .before .before .before .before .before .before .before .before .before .before .before .args .f .mark) (c .before .check-mark .result) (c .before .check-mark .ensures) (c .if6 .left)
@@ -133,9 +121,6 @@ on6 c = passed 6 (marked (c .before .before .before .before .before .before .bef
 returns-6 : tie.Need-returns-6
 returns-6 c = stopped 6 (marked (c .before .before .before .before .before .before .before .before .before .before .before .before .before .before .args .f .mark)) (from7 (c .before .before .before .before .before .before .before .before .before .before .before .before .before .before .args .zeros) (c .before .before .before .before .before .before .before .before .before .before .before .before .before .before .args .f)) (bad6 c) ∙ on5 (c .before .before)
 
-sized-requires : tie.Need-sized-requires
-sized-requires c κs = search needs
-
 ok7 : (c : tie.Else7) → sized 5000 (c .before .before .before .before .before .before .before .before .before .before .before .before .before .before .before .before .args .f .speed) ≡ true
 ok7 c = sym (c .before .sized .ensures) ∙ not-false (c .before .sized .result) (c .if7 .left)
 
@@ -147,9 +132,6 @@ on7 c = passed 7 (sized 5000 (c .before .before .before .before .before .before 
 
 returns-7 : tie.Need-returns-7
 returns-7 c = stopped 7 (sized 5000 (c .before .before .before .before .before .before .before .before .before .before .before .before .before .before .before .before .args .f .speed)) (from8 (c .before .before .before .before .before .before .before .before .before .before .before .before .before .before .before .before .args .zeros) (c .before .before .before .before .before .before .before .before .before .before .before .before .before .before .before .before .args .f)) (bad7 c) ∙ on6 (c .before .before)
-
-sized-requires-2 : tie.Need-sized-requires-2
-sized-requires-2 c κs = search needs
 
 ok8 : (c : tie.Else8) → sized 10000000 (c .before .before .before .before .before .before .before .before .before .before .before .before .before .before .before .before .before .before .args .f .offset) ≡ true
 ok8 c = sym (c .before .sized2 .ensures) ∙ not-false (c .before .sized2 .result) (c .if8 .left)
@@ -174,18 +156,18 @@ pub opened-number-spec : {M : Type 1} → statement M
 opened-number-spec =
     tie.close
     (tie.spec
-    slice-aggregate-site-shape
-    site-shape-requires
+    (λ c. search needs)
+    (λ c κs. search needs)
     returns
     returns-2
     returns-3
     returns-4
-    epoch-fits-requires
+    (λ c κs. search needs)
     returns-5
-    check-mark-requires
+    (λ c κs. search needs)
     returns-6
-    sized-requires
+    (λ c κs. search needs)
     returns-7
-    sized-requires-2
+    (λ c κs. search needs)
     returns-8
     returns-9)

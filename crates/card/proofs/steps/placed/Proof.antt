@@ -7,9 +7,6 @@ use Rattle.card.proofs.StepLaws.{placed-far, placed-near}
 use Rattle.card.proofs.steps.placed.Statement.{statement}
 use Rattle.card.proofs.steps.placed.Tie as tie
 
-position-fits-requires : tie.Need-position-fits-requires
-position-fits-requires c κs = search needs
-
 returns : tie.Need-returns
 returns c =
     let a = c .before .before .args in
@@ -24,4 +21,4 @@ returns-2 c =
     (toZ-ofZ (record { sfits = c .struct-told .given .1 .1 .1 .0 .1 }))
 
 pub placed-spec : {M : Type 1} → statement M
-placed-spec = tie.close (tie.spec position-fits-requires returns returns-2)
+placed-spec = tie.close (tie.spec (λ c κs. search needs) returns returns-2)

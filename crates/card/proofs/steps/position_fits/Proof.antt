@@ -12,9 +12,6 @@ use Rattle.card.proofs.CheckLaws.{sized-within, is-sized, position-smal
 use Rattle.card.proofs.steps.position_fits.Statement.{statement}
 use Rattle.card.proofs.steps.position_fits.Tie as tie
 
-sized-requires : tie.Need-sized-requires
-sized-requires c κs = search needs
-
 -- a near position is small, so one that is not small is not near
 far : (m p : Vec3) (t : Bool) → T (sized 6400000 m) → sized 10000000000000000 p ≡ false → positionFits m p ≡ t → false ≡ t
 far m p false h e q = refl
@@ -31,9 +28,6 @@ from-mark-requires : tie.Need-from-mark-requires
 from-mark-requires c κs =
     (c .before .before .pre, passes (sym (c .before .sized .ensures) ∙ not-false (c .before .sized .result) (c .if1 .left)))
 
-sized-requires-2 : tie.Need-sized-requires-2
-sized-requires-2 c κs = search needs
-
 named : (m p d : Vec3) (t : Bool) → d ≡ fromMark m p → t ≡ sized 1461000000000 d → t ≡ positionFits m p
 unfolding positionFits
 named m p d t e h = h ∙ ap (sized 1461000000000) e
@@ -44,4 +38,4 @@ returns-2 c =
     named (a .m) (a .p) (c .before .from-mark .result) (c .sized2 .result) (c .before .from-mark .ensures) (c .sized2 .ensures)
 
 pub position-fits-spec : {M : Type 1} → statement M
-position-fits-spec = tie.close (tie.spec sized-requires returns from-mark-requires sized-requires-2 returns-2)
+position-fits-spec = tie.close (tie.spec (λ c κs. search needs) returns from-mark-requires (λ c κs. search needs) returns-2)

@@ -27,27 +27,6 @@ all : (s a b t : List ℕ) (at w : ℕ) (v : Vec3) → a ≡ splice s at (bytesO
 unfolding spliced
 all s a b t at w v e f g = cc
 
-put-signed-requires : tie.Need-put-signed-requires
-put-signed-requires c κs = search needs
-
-add-put-signed : tie.Need-add-put-signed
-add-put-signed c = search needs
-
-put-signed-requires-2 : tie.Need-put-signed-requires-2
-put-signed-requires-2 c κs = search needs
-
-mul-put-signed : tie.Need-mul-put-signed
-mul-put-signed c = search needs
-
-add-put-signed-2 : tie.Need-add-put-signed-2
-add-put-signed-2 c = search needs
-
-put-signed-requires-3 : tie.Need-put-signed-requires-3
-put-signed-requires-3 c κs = search needs
-
-same-length : tie.Need-same-length
-same-length c = search needs
-
 returns : tie.Need-returns
 returns c =
     let third = c .before .before in
@@ -65,11 +44,11 @@ pub put-vector-spec : {M : Type 1} → statement M
 put-vector-spec =
     tie.close
     (tie.spec
-    put-signed-requires
-    add-put-signed
-    put-signed-requires-2
-    mul-put-signed
-    add-put-signed-2
-    put-signed-requires-3
-    same-length
+    (λ c κs. search needs)
+    (λ c. search needs)
+    (λ c κs. search needs)
+    (λ c. search needs)
+    (λ c. search needs)
+    (λ c κs. search needs)
+    (λ c. search needs)
     returns)

@@ -114,12 +114,6 @@ far-is c = c .position-fits .ensures ∙ ap (positionFits (c .before .before .be
 returns : tie.Need-returns
 returns c = reframed-unknown (c .before .args .c) (c .before .args .frame) (c .if1 .taken)
 
-frame-terms-requires : tie.Need-frame-terms-requires
-frame-terms-requires c κs = search needs
-
-frame-terms-requires-2 : tie.Need-frame-terms-requires-2
-frame-terms-requires-2 c κs = search needs
-
 minus-requires : tie.Need-minus-requires
 minus-requires c κs =
     let s = c .before .before .before in
@@ -131,9 +125,6 @@ plus-requires c κs =
       within-sized (widen (small s .velocity) (lit≤ tt)),
       sized-as (gain-is c) (minus-within (b-small s (s .args .frame)) (b-small s (s .args .c .frame))) (lit≤ tt),
     )
-
-sized-requires : tie.Need-sized-requires
-sized-requires c κs = search needs
 
 returns-2 : tie.Need-returns-2
 returns-2 c =
@@ -197,11 +188,11 @@ reframed-spec =
     tie.close
     (tie.spec
     returns
-    frame-terms-requires
-    frame-terms-requires-2
+    (λ c κs. search needs)
+    (λ c κs. search needs)
     minus-requires
     plus-requires
-    sized-requires
+    (λ c κs. search needs)
     returns-2
     scaled-requires
     plus-requires-2

@@ -16,15 +16,6 @@ use Rattle.card.proofs.steps.rounded.Tie as tie
 came : (b : ℕ) (z r : ℤ) → SFits w64 z → SFits w64 r → r ≡ near (toZ w64 (ofZ w64 z)) b → toZ w64 (ofZ w64 r) ≡ near z b
 came b z r f g e = toZ-ofZ g ∙ e ∙ ap (λ (y : ℤ). near y b) (toZ-ofZ f)
 
-near-requires : tie.Need-near-requires
-near-requires c κs = search needs
-
-near-requires-2 : tie.Need-near-requires-2
-near-requires-2 c κs = search needs
-
-near-requires-3 : tie.Need-near-requires-3
-near-requires-3 c κs = search needs
-
 returns : tie.Need-returns
 unfolding roundedBy
 returns c =
@@ -38,4 +29,4 @@ returns c =
     (came (a .b) (a .v .z) (third .near3 .result) (record { sfits = third .before .struct-told3 .given .1 .1 .0 .1 }) (record { sfits = third .near3 .ok }) (third .near3 .ensures))
 
 pub rounded-spec : {M : Type 1} → statement M
-rounded-spec = tie.close (tie.spec near-requires near-requires-2 near-requires-3 returns)
+rounded-spec = tie.close (tie.spec (λ c κs. search needs) (λ c κs. search needs) (λ c κs. search needs) returns)

@@ -25,33 +25,6 @@ nine : (s : List ℕ) → 9 ≤ length s → listed s 0 9 ≡ siteOf s
 unfolding siteOf
 nine s h = listed-is s 0 9 h
 
-shared-slice-read-t3 : tie.Need-shared-slice-read-t3
-shared-slice-read-t3 c = search needs
-
-shared-slice-read-t5 : tie.Need-shared-slice-read-t5
-shared-slice-read-t5 c = search needs
-
-shared-slice-read-t7 : tie.Need-shared-slice-read-t7
-shared-slice-read-t7 c = search needs
-
-shared-slice-read-t9 : tie.Need-shared-slice-read-t9
-shared-slice-read-t9 c = search needs
-
-shared-slice-read-t11 : tie.Need-shared-slice-read-t11
-shared-slice-read-t11 c = search needs
-
-shared-slice-read-t13 : tie.Need-shared-slice-read-t13
-shared-slice-read-t13 c = search needs
-
-shared-slice-read-t15 : tie.Need-shared-slice-read-t15
-shared-slice-read-t15 c = search needs
-
-shared-slice-read-t17 : tie.Need-shared-slice-read-t17
-shared-slice-read-t17 c = search needs
-
-shared-slice-read-t19 : tie.Need-shared-slice-read-t19
-shared-slice-read-t19 c = search needs
-
 returns : tie.Need-returns
 returns c = nine (c .before .before .before .before .before .before .before .before .before .args .s .now) (c .before .before .before .before .before .before .before .before .before .pre)
 
@@ -59,13 +32,13 @@ pub site-of-spec : {M : Type 1} → statement M
 site-of-spec =
     tie.close
     (tie.spec
-    shared-slice-read-t3
-    shared-slice-read-t5
-    shared-slice-read-t7
-    shared-slice-read-t9
-    shared-slice-read-t11
-    shared-slice-read-t13
-    shared-slice-read-t15
-    shared-slice-read-t17
-    shared-slice-read-t19
+    (λ c. search needs)
+    (λ c. search needs)
+    (λ c. search needs)
+    (λ c. search needs)
+    (λ c. search needs)
+    (λ c. search needs)
+    (λ c. search needs)
+    (λ c. search needs)
+    (λ c. search needs)
     returns)

@@ -47,24 +47,12 @@ returns c = unlike (c .before .before .args .s .now) (c .if1 .taken)
 loop-holds : tie.Need-loop-holds Inv-loop μ-loop
 loop-holds c = record { nine = c .if1 .left; within = omega arith; left = refl }
 
-shared-slice-read-shape-at : tie.Need-shared-slice-read-shape-at Inv-loop μ-loop
-shared-slice-read-shape-at c = omega arith
-
-shape-at-requires : tie.Need-shape-at-requires Inv-loop μ-loop
-shape-at-requires c κs = search needs
-
 returns-2 : tie.Need-returns-2 Inv-loop μ-loop
 returns-2 c =
     let s = c .before .before .before .before .before .before .before .args .s .now in
     let l = c .before .before .before .before .loop in
     sym (whole s (l .inv .nine) ∙ l .inv .left ∙ next s (l .i) (c .before .before .before .loop-test .taken)
     ∙ ap (λ (t : Bool). t && shapeFrom s (l .i + 1) (9 - (l .i + 1))) (sym (c .before .shape-at .ensures) ∙ not-true (c .before .shape-at .result) (c .if2 .taken)))
-
-add-i : tie.Need-add-i Inv-loop μ-loop
-add-i c = omega arith
-
-loop-less : tie.Need-loop-less Inv-loop μ-loop
-loop-less c = omega arith
 
 loop-again : tie.Need-loop-again Inv-loop μ-loop
 loop-again c =
@@ -91,10 +79,10 @@ site-shape-spec =
     μ-loop
     returns
     loop-holds
-    shared-slice-read-shape-at
-    shape-at-requires
+    (λ c. omega arith)
+    (λ c κs. search needs)
     returns-2
-    add-i
-    loop-less
+    (λ c. omega arith)
+    (λ c. omega arith)
     loop-again
     returns-3)

@@ -18,9 +18,6 @@ use Rattle.card.proofs.steps.sized.Tie as tie
 size : (r : ℕ) (z : ℤ) → SFits w64 z → r ≡ natAbs (toZ w64 (ofZ w64 z)) → r ≡ natAbs z
 size r z f e = e ∙ ap natAbs (toZ-ofZ f)
 
-magnitude-requires : tie.Need-magnitude-requires
-magnitude-requires c κs = search needs
-
 x-is : (c : tie.After-magnitude) → c .magnitude .result ≡ natAbs (c .before .before .args .v .x)
 x-is c = size (c .magnitude .result) (c .before .before .args .v .x) (record { sfits = c .before .struct-told .given .0 .1 }) (c .magnitude .ensures)
 
@@ -33,9 +30,6 @@ returns c =
     let a = c .before .before .before .args in
     x-far (a .n) (a .v) (subst (λ (k : ℕ). a .n < k) (x-is (c .before)) (c .if1 .taken))
 
-magnitude-requires-2 : tie.Need-magnitude-requires-2
-magnitude-requires-2 c κs = search needs
-
 y-is : (c : tie.After-magnitude2) → c .magnitude2 .result ≡ natAbs (c .before .before .before .before .before .args .v .y)
 y-is c = size (c .magnitude2 .result) (c .before .before .before .before .before .args .v .y) (record { sfits = c .before .struct-told2 .given .1 .0 .1 }) (c .magnitude2 .ensures)
 
@@ -47,9 +41,6 @@ returns-2 : tie.Need-returns-2
 returns-2 c =
     let a = c .before .before .before .before .before .before .args in
     y-far (a .n) (a .v) (subst (λ (k : ℕ). k ≤ a .n) (x-is (c .before .before .before .before)) (c .before .before .before .if1 .left)) (subst (λ (k : ℕ). a .n < k) (y-is (c .before)) (c .if2 .taken))
-
-magnitude-requires-3 : tie.Need-magnitude-requires-3
-magnitude-requires-3 c κs = search needs
 
 z-is : (c : tie.After-magnitude3) → c .magnitude3 .result ≡ natAbs (c .before .before .before .before .before .before .before .before .args .v .z)
 z-is c = size (c .magnitude3 .result) (c .before .before .before .before .before .before .before .before .args .v .z) (record { sfits = c .before .struct-told3 .given .1 .1 .0 .1 }) (c .magnitude3 .ensures)
@@ -67,4 +58,4 @@ returns-3 c =
     (z-is c)
 
 pub sized-spec : {M : Type 1} → statement M
-sized-spec = tie.close (tie.spec magnitude-requires returns magnitude-requires-2 returns-2 magnitude-requires-3 returns-3)
+sized-spec = tie.close (tie.spec (λ c κs. search needs) returns (λ c κs. search needs) returns-2 (λ c κs. search needs) returns-3)

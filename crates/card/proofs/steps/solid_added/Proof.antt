@@ -21,9 +21,6 @@ on-mark c = valid-passed (c .args .c) (c .pre) .mark
 returns : tie.Need-returns
 returns c = solid-on-tide (c .before .before .args .c) (c .before .before .args .first) (c .before .before .args .second) (c .if1 .taken)
 
-solid-tide-requires : tie.Need-solid-tide-requires
-solid-tide-requires c κs = search needs
-
 returns-2 : tie.Need-returns-2
 returns-2 c =
     let t = c .before in
@@ -53,4 +50,4 @@ returns-3 c =
 pub solid-added-spec : {M : Type 1} → statement M
 solid-added-spec =
     tie.close
-    (tie.spec returns solid-tide-requires returns-2 plus-requires placed-requires returns-3)
+    (tie.spec returns (λ c κs. search needs) returns-2 plus-requires placed-requires returns-3)

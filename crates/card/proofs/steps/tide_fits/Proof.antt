@@ -23,9 +23,6 @@ on b v e = rw e
 returns-2 : tie.Need-returns-2
 returns-2 c = on (c .before .before .args .byte) (c .before .before .args .v) (c .if2 .taken)
 
-sized-requires : tie.Need-sized-requires
-sized-requires c κs = search needs
-
 off : (b : ℕ) (v : Vec3) (t : Bool) → b ≤ 2 → (b ≡ 2 → ⊥) → t ≡ sized 0 v → t ≡ tideFits b v
 unfolding tideFits isZero
 off b v t l n e = rw (le-leb b 2 l, ne-eqb b 2 n) e
@@ -36,4 +33,4 @@ returns-3 c =
     off (a .byte) (a .v) (c .sized .result) (c .before .before .if1 .left) (c .before .if2 .left) (c .sized .ensures)
 
 pub tide-fits-spec : {M : Type 1} → statement M
-tide-fits-spec = tie.close (tie.spec returns returns-2 sized-requires returns-3)
+tide-fits-spec = tie.close (tie.spec returns returns-2 (λ c κs. search needs) returns-3)

@@ -19,24 +19,6 @@ use Rattle.card.proofs.steps.vector_at.Tie as tie
 came : (s : List ℕ) (at w : ℕ) (r : ℤ) → w ≤ 8 → mag r < 2 ^ 63 → r ≡ signedAt s at (min w 8) → toZ w64 (ofZ w64 r) ≡ signedAt s at w
 came s at w r h ok e = answered r ok ∙ e ∙ ap (signedAt s at) (min-eq-left h)
 
-signed-at-requires : tie.Need-signed-at-requires
-signed-at-requires c κs = search needs
-
-add-signed-at : tie.Need-add-signed-at
-add-signed-at c = search needs
-
-signed-at-requires-2 : tie.Need-signed-at-requires-2
-signed-at-requires-2 c κs = search needs
-
-mul-signed-at : tie.Need-mul-signed-at
-mul-signed-at c = search needs
-
-add-signed-at-2 : tie.Need-add-signed-at-2
-add-signed-at-2 c = search needs
-
-signed-at-requires-3 : tie.Need-signed-at-requires-3
-signed-at-requires-3 c κs = search needs
-
 returns : tie.Need-returns
 unfolding vectorAt
 returns c =
@@ -55,10 +37,10 @@ pub vector-at-spec : {M : Type 1} → statement M
 vector-at-spec =
     tie.close
     (tie.spec
-    signed-at-requires
-    add-signed-at
-    signed-at-requires-2
-    mul-signed-at
-    add-signed-at-2
-    signed-at-requires-3
+    (λ c κs. search needs)
+    (λ c. search needs)
+    (λ c κs. search needs)
+    (λ c. search needs)
+    (λ c. search needs)
+    (λ c κs. search needs)
     returns)

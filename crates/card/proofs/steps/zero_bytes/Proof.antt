@@ -23,20 +23,11 @@ at-47 : (s : List ℕ) → getD s 11 0 ≡ 0 → getD s 46 0 ≡ 0 → eqb (getD
 unfolding zeroBytes
 at-47 s e f = rw (eq-eqb (getD s 11 0) 0 e, eq-eqb (getD s 46 0) 0 f)
 
-shared-slice-read-if1 : tie.Need-shared-slice-read-if1
-shared-slice-read-if1 c = search needs
-
 returns : tie.Need-returns
 returns c = at-11 (c .before .before .args .s .now) (c .if1 .taken)
 
-shared-slice-read-if2 : tie.Need-shared-slice-read-if2
-shared-slice-read-if2 c = search needs
-
 returns-2 : tie.Need-returns-2
 returns-2 c = at-46 (c .before .before .before .before .args .s .now) (c .before .before .if1 .left) (c .if2 .taken)
-
-shared-slice-read-result : tie.Need-shared-slice-read-result
-shared-slice-read-result c = search needs
 
 returns-3 : tie.Need-returns-3
 returns-3 c = at-47 (c .before .before .before .before .before .args .s .now) (c .before .before .before .if1 .left) (c .before .if2 .left)
@@ -45,9 +36,9 @@ pub zero-bytes-spec : {M : Type 1} → statement M
 zero-bytes-spec =
     tie.close
     (tie.spec
-    shared-slice-read-if1
+    (λ c. search needs)
     returns
-    shared-slice-read-if2
+    (λ c. search needs)
     returns-2
-    shared-slice-read-result
+    (λ c. search needs)
     returns-3)

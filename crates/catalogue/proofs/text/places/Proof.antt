@@ -29,9 +29,6 @@ loop-holds c = whole (c .args .n) (omega arith)
 add-count : tie.Need-add-count Inv-loop μ-loop
 add-count c = omega (arith, c .before .loop .inv .spent)
 
-loop-less : tie.Need-loop-less Inv-loop μ-loop
-loop-less c = omega arith
-
 next : (n rest count k : ℕ) → 10 ≤ rest → Counted n rest count k → Counted n (rest / 10) (count + 1) (20 - (count + 1))
 next n rest count k h p =
     let m = more k rest h (p .small) in
@@ -55,4 +52,4 @@ returns c =
 
 pub places-spec : {M : Type 1} → statement M
 places-spec =
-    tie.close (tie.spec Inv-loop μ-loop loop-holds add-count loop-less loop-again returns)
+    tie.close (tie.spec Inv-loop μ-loop loop-holds add-count (λ c. omega arith) loop-again returns)

@@ -47,9 +47,6 @@ unfolding natural
 whole out at n count e =
     record { kept = refl; all = e; within = omega arith; same = ap (λ (k : ℕ). splice out at (digits k n)) e }
 
-places-requires : tie.Need-places-requires Inv-loop μ-loop
-places-requires c κs = search needs
-
 loop-holds : tie.Need-loop-holds Inv-loop μ-loop
 loop-holds c =
     let a = c .before .before .args in
@@ -58,23 +55,8 @@ loop-holds c =
 short : (c : tie.At-loop Inv-loop μ-loop) → c .loop .left ≤ 20
 short c = omega (arith, c .loop .inv .within, c .loop .inv .all, places-most (c .before .before .before .args .n))
 
-sub-left : tie.Need-sub-left Inv-loop μ-loop
-sub-left c = search needs
-
 add-put-byte : tie.Need-add-put-byte Inv-loop μ-loop
 add-put-byte c = omega (arith, short (c .before .before), c .before .before .before .before .before .pre)
-
-cast-put-byte : tie.Need-cast-put-byte Inv-loop μ-loop
-cast-put-byte c = omega arith
-
-add-put-byte-2 : tie.Need-add-put-byte-2 Inv-loop μ-loop
-add-put-byte-2 c = omega arith
-
-put-byte-requires : tie.Need-put-byte-requires Inv-loop μ-loop
-put-byte-requires c κs = search needs
-
-loop-less : tie.Need-loop-less Inv-loop μ-loop
-loop-less c = omega arith
 
 loop-again : tie.Need-loop-again Inv-loop μ-loop
 loop-again c =
@@ -110,14 +92,14 @@ put-digits-spec =
     (tie.spec
     Inv-loop
     μ-loop
-    places-requires
+    (λ c κs. search needs)
     loop-holds
-    sub-left
+    (λ c. search needs)
     add-put-byte
-    cast-put-byte
-    add-put-byte-2
-    put-byte-requires
-    loop-less
+    (λ c. omega arith)
+    (λ c. omega arith)
+    (λ c κs. search needs)
+    (λ c. omega arith)
     loop-again
     add-result
     same-length

@@ -35,27 +35,6 @@ plus-text c =
     let k = positive (c .before .before .before .args .z) (c .before .before .before .fits .z) (c .if1 .left) in
     above (k .k) (c .before .magnitude .result) (size (c .before) ∙ ap natAbs (k .is)) ∙ sym (ap integer (k .is))
 
-magnitude-requires : tie.Need-magnitude-requires
-magnitude-requires c κs = search needs
-
-put-byte-requires : tie.Need-put-byte-requires
-put-byte-requires c κs = search needs
-
-add-put-byte : tie.Need-add-put-byte
-add-put-byte c = search needs
-
-put-byte-requires-2 : tie.Need-put-byte-requires-2
-put-byte-requires-2 c κs = search needs
-
-add-put-digits : tie.Need-add-put-digits
-add-put-digits c = search needs
-
-put-digits-requires : tie.Need-put-digits-requires
-put-digits-requires c κs = search needs
-
-same-length : tie.Need-same-length
-same-length c = search needs
-
 returns : tie.Need-returns
 returns c =
     let d = c .before .before in
@@ -71,12 +50,6 @@ returns c =
           ∙ ap (λ (t : List ℕ). splice (a .out .now) (a .at) (32 ∷ t)) e,
     )
 
-put-natural-requires : tie.Need-put-natural-requires
-put-natural-requires c κs = search needs
-
-same-length-2 : tie.Need-same-length-2
-same-length-2 c = search needs
-
 returns-2 : tie.Need-returns-2
 returns-2 c =
     let d = c .before .before in
@@ -91,14 +64,14 @@ pub put-integer-spec : {M : Type 1} → statement M
 put-integer-spec =
     tie.close
     (tie.spec
-    magnitude-requires
-    put-byte-requires
-    add-put-byte
-    put-byte-requires-2
-    add-put-digits
-    put-digits-requires
-    same-length
+    (λ c κs. search needs)
+    (λ c κs. search needs)
+    (λ c. search needs)
+    (λ c κs. search needs)
+    (λ c. search needs)
+    (λ c κs. search needs)
+    (λ c. search needs)
     returns
-    put-natural-requires
-    same-length-2
+    (λ c κs. search needs)
+    (λ c. search needs)
     returns-2)

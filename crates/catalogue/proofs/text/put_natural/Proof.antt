@@ -7,18 +7,6 @@ use borrow.Author.Needs.{needs}
 use Rattle.catalogue.proofs.text.put_natural.Statement.{statement}
 use Rattle.catalogue.proofs.text.put_natural.Tie as tie
 
-put-byte-requires : tie.Need-put-byte-requires
-put-byte-requires c κs = search needs
-
-add-put-digits : tie.Need-add-put-digits
-add-put-digits c = search needs
-
-put-digits-requires : tie.Need-put-digits-requires
-put-digits-requires c κs = search needs
-
-same-length : tie.Need-same-length
-same-length c = search needs
-
 returns : tie.Need-returns
 returns c =
     let d = c .before .before in
@@ -30,4 +18,4 @@ returns c =
 
 pub put-natural-spec : {M : Type 1} → statement M
 put-natural-spec =
-    tie.close (tie.spec put-byte-requires add-put-digits put-digits-requires same-length returns)
+    tie.close (tie.spec (λ c κs. search needs) (λ c. search needs) (λ c κs. search needs) (λ c. search needs) returns)

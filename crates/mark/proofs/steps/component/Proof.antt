@@ -71,9 +71,6 @@ mul-near-2 c = fit (side c) (lit< tt)
 add-near : tie.Need-add-near
 add-near c = fit (whole c) (lit< tt)
 
-near-requires : tie.Need-near-requires
-near-requires c κs = search needs
-
 named :
     (rho t c u d z : ℤ) → z ≡ rho *ℤ u +ℤ t *ℤ (d -ℤ times c u) → near z 1073741824 ≡ component rho t c u d
 unfolding component
@@ -88,4 +85,4 @@ returns c =
 
 pub component-spec : {M : Type 1} → statement M
 component-spec =
-    tie.close (tie.spec mul-near times-requires sub-near mul-near-2 add-near near-requires returns)
+    tie.close (tie.spec mul-near times-requires sub-near mul-near-2 add-near (λ c κs. search needs) returns)

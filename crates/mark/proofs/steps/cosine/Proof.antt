@@ -73,9 +73,6 @@ add-near-2 c =
     let s = c .before .before .before .before .before .before .before .before .before .before .before .before in
     fit (three (s .args .u) (s .args .d) (s .pre .0) (s .pre .1)) (lit< tt)
 
-near-requires : tie.Need-near-requires
-near-requires c κs = search needs
-
 returns : tie.Need-returns
 returns c =
     let s = c .before .before .before .before .before .before .before .before .before .before .before .before .before in
@@ -85,4 +82,4 @@ returns c =
 
 pub cosine-spec : {M : Type 1} → statement M
 cosine-spec =
-    tie.close (tie.spec mul-near mul-near-2 add-near mul-near-3 add-near-2 near-requires returns)
+    tie.close (tie.spec mul-near mul-near-2 add-near mul-near-3 add-near-2 (λ c κs. search needs) returns)

@@ -31,9 +31,6 @@ mul-result c = fit (shift c) (lit< tt)
 mul-near : tie.Need-mul-near
 mul-near c = fit (scaled c) (lit< tt)
 
-near-requires : tie.Need-near-requires
-near-requires c κs = search needs
-
 add-result : tie.Need-add-result
 add-result c = fit (sum c) (lit< tt)
 
@@ -42,4 +39,4 @@ unfolding drift
 returns c = at (sum c) (lit< tt) .told
 
 pub drift-spec : {M : Type 1} → statement M
-drift-spec = tie.close (tie.spec mul-result mul-near near-requires add-result returns)
+drift-spec = tie.close (tie.spec mul-result mul-near (λ c κs. search needs) add-result returns)

@@ -27,63 +27,6 @@ room c = (omega arith, omega arith)
 loop-holds : tie.Need-loop-holds Inv-loop μ-loop
 loop-holds c = (omega arith, refl, ap (shiftsFrom (c .before .args .u) (c .before .args .bodies .now) 0) (sub-zero (c .before .args .rows)))
 
-mul-body-at : tie.Need-mul-body-at Inv-loop μ-loop
-mul-body-at c = omega arith
-
-body-at-requires : tie.Need-body-at-requires Inv-loop μ-loop
-body-at-requires c κs = omega arith
-
-mul-body-at-2 : tie.Need-mul-body-at-2 Inv-loop μ-loop
-mul-body-at-2 c = omega arith
-
-add-body-at : tie.Need-add-body-at Inv-loop μ-loop
-add-body-at c = omega arith
-
-body-at-requires-2 : tie.Need-body-at-requires-2 Inv-loop μ-loop
-body-at-requires-2 c κs = omega arith
-
-pair-tide-requires : tie.Need-pair-tide-requires Inv-loop μ-loop
-pair-tide-requires c κs = search needs
-
-mul-x : tie.Need-mul-x Inv-loop μ-loop
-mul-x c = omega (arith, room (c .before .before .before .before .before .before))
-
-mul-x-2 : tie.Need-mul-x-2 Inv-loop μ-loop
-mul-x-2 c = omega (arith, room (c .before .before .before .before .before .before))
-
-slice-set-from-x : tie.Need-slice-set-from-x Inv-loop μ-loop
-slice-set-from-x c = omega (arith, room (c .before .before .before .before .before .before))
-
-mul-y : tie.Need-mul-y Inv-loop μ-loop
-mul-y c = omega (arith, room (c .before .before .before .before .before .before))
-
-add-y : tie.Need-add-y Inv-loop μ-loop
-add-y c = omega (arith, room (c .before .before .before .before .before .before))
-
-mul-y-2 : tie.Need-mul-y-2 Inv-loop μ-loop
-mul-y-2 c = omega (arith, room (c .before .before .before .before .before .before))
-
-slice-set-from-y : tie.Need-slice-set-from-y Inv-loop μ-loop
-slice-set-from-y c = simp length-set (omega (arith, room (c .before .before .before .before .before .before)))
-
-mul-z : tie.Need-mul-z Inv-loop μ-loop
-mul-z c = omega (arith, room (c .before .before .before .before .before .before))
-
-add-z : tie.Need-add-z Inv-loop μ-loop
-add-z c = omega (arith, room (c .before .before .before .before .before .before))
-
-mul-z-2 : tie.Need-mul-z-2 Inv-loop μ-loop
-mul-z-2 c = omega (arith, room (c .before .before .before .before .before .before))
-
-slice-set-from-z : tie.Need-slice-set-from-z Inv-loop μ-loop
-slice-set-from-z c = simp length-set (omega (arith, room (c .before .before .before .before .before .before)))
-
-add-i : tie.Need-add-i Inv-loop μ-loop
-add-i c = omega (arith, room (c .before .before .before .before .before .before))
-
-loop-less : tie.Need-loop-less Inv-loop μ-loop
-loop-less c = omega arith
-
 loop-again : tie.Need-loop-again Inv-loop μ-loop
 loop-again c =
     let t = c .before .before .before in
@@ -124,25 +67,22 @@ fill-spec =
     Inv-loop
     μ-loop
     loop-holds
-    mul-body-at
-    body-at-requires
-    mul-body-at-2
-    add-body-at
-    body-at-requires-2
-    pair-tide-requires
-    mul-x
-    mul-x-2
-    slice-set-from-x
-    mul-y
-    add-y
-    mul-y-2
-    slice-set-from-y
-    mul-z
-    add-z
-    mul-z-2
-    slice-set-from-z
-    add-i
-    loop-less
+    (λ c. omega arith)
+    (λ c. omega arith)
+    (λ c κs. omega arith)
+    (λ c. omega arith)
+    (λ c κs. omega arith)
+    (λ c κs. search needs)
+    (λ c. omega (arith, room (c .before .before .before .before .before .before)))
+    (λ c. omega (arith, room (c .before .before .before .before .before .before)))
+    (λ c. omega (arith, room (c .before .before .before .before .before .before)))
+    (λ c. omega (arith, room (c .before .before .before .before .before .before)))
+    (λ c. simp length-set (omega (arith, room (c .before .before .before .before .before .before))))
+    (λ c. omega (arith, room (c .before .before .before .before .before .before)))
+    (λ c. omega (arith, room (c .before .before .before .before .before .before)))
+    (λ c. simp length-set (omega (arith, room (c .before .before .before .before .before .before))))
+    (λ c. omega (arith, room (c .before .before .before .before .before .before)))
+    (λ c. omega arith)
     loop-again
     same-length
     returns)

@@ -25,9 +25,6 @@ mul-near c = fit (thrice c) (lit< tt)
 sub-near : tie.Need-sub-near
 sub-near c = fit (less c) (lit< tt)
 
-near-requires : tie.Need-near-requires
-near-requires c κs = search needs
-
 named : (s z : ℤ) → z ≡ pos 3 *ℤ s -ℤ pos E → near z 2 ≡ legendre s
 unfolding legendre
 named s z e = ap (λ (p : ℤ). near p 2) e
@@ -39,4 +36,4 @@ returns c =
     ∙ named (c .before .args .s) _ (at (less (c .before)) (lit< tt) .told)
 
 pub legendre-spec : {M : Type 1} → statement M
-legendre-spec = tie.close (tie.spec mul-near sub-near near-requires returns)
+legendre-spec = tie.close (tie.spec mul-near sub-near (λ c κs. search needs) returns)

@@ -37,9 +37,6 @@ mul-near c = fit (scale c) (lit< tt)
 mul-near-2 : tie.Need-mul-near-2
 mul-near-2 c = fit (scaled c) (lit< tt)
 
-near-requires : tie.Need-near-requires
-near-requires c κs = search needs
-
 add-result : tie.Need-add-result
 add-result c = fit (sum c) (lit< tt)
 
@@ -48,4 +45,4 @@ unfolding offset
 returns c = at (sum c) (lit< tt) .told
 
 pub offset-spec : {M : Type 1} → statement M
-offset-spec = tie.close (tie.spec mul-result mul-near mul-near-2 near-requires add-result returns)
+offset-spec = tie.close (tie.spec mul-result mul-near mul-near-2 (λ c κs. search needs) add-result returns)

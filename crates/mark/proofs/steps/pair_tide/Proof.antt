@@ -72,15 +72,6 @@ added u v w a b p q h k =
     vec≡ (at (sum (a .x) (b .x) (h .x) (k .x)) (lit< tt) .told) (at (sum (a .y) (b .y) (h .y) (k .y)) (lit< tt) .told) (at (sum (a .z) (b .z) (h .z) (k .z)) (lit< tt) .told)
     ∙ ap₂ plus p q
 
-see-requires : tie.Need-see-requires
-see-requires c κs = search needs
-
-see-requires-2 : tie.Need-see-requires-2
-see-requires-2 c κs = search needs
-
-both-requires : tie.Need-both-requires
-both-requires c κs = search needs
-
 returns : tie.Need-returns
 returns c =
     let b = c .before in
@@ -170,9 +161,9 @@ pub pair-tide-spec : {M : Type 1} → statement M
 pair-tide-spec =
     tie.close
     (tie.spec
-    see-requires
-    see-requires-2
-    both-requires
+    (λ c κs. search needs)
+    (λ c κs. search needs)
+    (λ c κs. search needs)
     returns
     seen-part-requires
     seen-part-requires-2

@@ -9,10 +9,8 @@ use borrow.Author.Needs.{needs}
 use lib.Dec.{lit<, lit≤}
 use lib.IntN.{ℤ, pos, natAbs, _*ℤ_}
 use lib.Signed.{mag}
-use mir.Syntax.{w64}
 use mir.Facts.{toZ-ofZ}
-use mir.Val.{toZ, ofZ}
-use Rattle.algebra.proofs.Machine.{Va, given, lit, sfits-abs, at, v*, fit, answered}
+use Rattle.algebra.proofs.Machine.{rd, Va, given, lit, sfits-abs, at, v*, fit, answered}
 use Rattle.number.specs.Near.{near}
 use Rattle.mark.specs.declared.Vec3.{Vec3}
 use Rattle.mark.specs.Mark.{E, times, vec, lengthOf}
@@ -25,15 +23,11 @@ use Rattle.mark.proofs.TideLaws.{nearness-bound, strength-bound, height
 use Rattle.mark.proofs.steps.part.Statement.{statement}
 use Rattle.mark.proofs.steps.part.Tie as tie
 
--- a number as the machine has it
-abbrev held : ℤ → ℤ
-held z = toZ w64 (ofZ w64 z)
-
 -- an answer r, of which the contract says that it is y
-said : {r y : ℤ} {k : ℕ} → r ≡ y → natAbs y ≤ k → k < 2 ^ 63 → Va (held r) y k
+said : {r y : ℤ} {k : ℕ} → r ≡ y → natAbs y ≤ k → k < 2 ^ 63 → Va (rd r) y k
 said e h l = at (record { told = e; small = h }) l
 
-field : (a : ℤ) → natAbs a ≤ E → Va (held a) a E
+field : (a : ℤ) → natAbs a ≤ E → Va (rd a) a E
 field a h = given (sfits-abs {z = a} h (lit< tt)) h
 
 size : {x z : ℤ} {n m : ℕ} → Va x z n → n ≤ m → natAbs x ≤ m
@@ -111,7 +105,7 @@ C-bound s =
 
 -- ---- and as the machine has them
 
-vK : (c : tie.After-strength) → Va (held (c .strength .result)) (Kc (c .before)) 696882923
+vK : (c : tie.After-strength) → Va (rd (c .strength .result)) (Kc (c .before)) 696882923
 vK c =
     let s = c .before in
     said
@@ -125,33 +119,33 @@ within-d c =
     let s = c .before .before in
     subst (λ (w : Vec3). Within E w) (sym (c .units .ensures)) (direction-within (s .args .r) (s .args .at) (long s))
 
-vC : (c : tie.After-cosine) → Va (held (c .cosine .result)) (Cc (c .before .before .before)) (E + 182)
+vC : (c : tie.After-cosine) → Va (rd (c .cosine .result)) (Cc (c .before .before .before)) (E + 182)
 vC c =
     let s = c .before .before .before in
     said (c .cosine .ensures ∙ ap (λ (w : Vec3). cosine (s .args .u) w) (c .before .units .ensures)) (C-bound s) (lit< tt)
 
-vH : (c : tie.After-near) → Va (held (c .near .result)) (Hc (c .before .before .before .before)) 423565441
+vH : (c : tie.After-near) → Va (rd (c .near .result)) (Hc (c .before .before .before .before)) 423565441
 vH c = vnear 10000 423565441 (c .near .ensures) (at (v* (lit 6078) (vK (c .before .before .before))) (lit< tt)) (lit≤ tt) (lit< tt)
 
-vS : (c : tie.After-near2) → Va (held (c .near2 .result)) (Sc (c .before .before .before .before .before)) 59025984
+vS : (c : tie.After-near2) → Va (rd (c .near2 .result)) (Sc (c .before .before .before .before .before)) 59025984
 vS c =
     vnear 10000 59025984 (c .near2 .ensures) (at (v* (lit 847) (vK (c .before .before .before .before))) (lit< tt)) (lit≤ tt) (lit< tt)
 
 vC2 :
     (c : tie.After-times)
-    → Va (held (c .times .result))
+    → Va (rd (c .times .result))
     (times (Cc (c .before .before .before .before .before .before)) (Cc (c .before .before .before .before .before .before)))
     (E + 365)
 vC2 c = vtimes (E + 365) (c .times .ensures) (vC (c .before .before .before)) (vC (c .before .before .before)) (lit≤ tt) (lit< tt)
 
-vP : (c : tie.After-legendre) → Va (held (c .legendre .result)) (Pc (c .before .before .before .before .before .before .before)) (E + 548)
+vP : (c : tie.After-legendre) → Va (rd (c .legendre .result)) (Pc (c .before .before .before .before .before .before .before)) (E + 548)
 vP c =
     let s = c .before .before .before .before .before .before .before in
     said (c .legendre .ensures ∙ ap legendre (vC2 (c .before) .told)) (P-bound (Cc s) (C-bound s)) (lit< tt)
 
 vrho :
     (c : tie.After-times2)
-    → Va (held (c .times2 .result))
+    → Va (rd (c .times2 .result))
     (times (Hc (c .before .before .before .before .before .before .before .before))
     (Pc (c .before .before .before .before .before .before .before .before)))
     423565658
@@ -160,16 +154,16 @@ vrho c = vtimes 423565658 (c .times2 .ensures) (vH (c .before .before .before .b
 abbrev start : tie.After-times3 → tie.Start
 start c = c .before .before .before .before .before .before .before .before .before
 
-vside : (c : tie.After-times3) → Va (held (c .times3 .result)) (times (Sc (start c)) (Cc (start c))) 59025995
+vside : (c : tie.After-times3) → Va (rd (c .times3 .result)) (times (Sc (start c)) (Cc (start c))) 59025995
 vside c =
     vtimes 59025995 (c .times3 .ensures) (vS (c .before .before .before .before)) (vC (c .before .before .before .before .before .before))
     (lit≤ tt)
     (lit< tt)
 
-vt3 : (c : tie.After-times3) → Va (pos 3 *ℤ held (c .times3 .result)) (pos 3 *ℤ times (Sc (start c)) (Cc (start c))) (3 * 59025995)
+vt3 : (c : tie.After-times3) → Va (pos 3 *ℤ rd (c .times3 .result)) (pos 3 *ℤ times (Sc (start c)) (Cc (start c))) (3 * 59025995)
 vt3 c = v* (lit 3) (vside c)
 
-vt : (c : tie.After-times3) → Va (held (pos 3 *ℤ held (c .times3 .result))) (pos 3 *ℤ times (Sc (start c)) (Cc (start c))) (3 * 59025995)
+vt : (c : tie.After-times3) → Va (rd (pos 3 *ℤ rd (c .times3 .result))) (pos 3 *ℤ times (Sc (start c)) (Cc (start c))) (3 * 59025995)
 vt c = at (vt3 c) (lit< tt)
 
 abbrev cosined : tie.After-times3 → tie.After-cosine
@@ -180,10 +174,10 @@ asked :
     (c : tie.After-times3) (a b : ℤ)
     → natAbs a ≤ E
     → natAbs b ≤ E
-    → (natAbs (held (c .before .times2 .result)) ≤ 500000000)
-    × ((natAbs (held (pos 3 *ℤ held (c .times3 .result))) ≤ 200000000)
-    × ((natAbs (held (cosined c .cosine .result)) ≤ 1073742006)
-    × ((natAbs (held a) ≤ 1073741824) × (natAbs (held b) ≤ 1073741824))))
+    → (natAbs (rd (c .before .times2 .result)) ≤ 500000000)
+    × ((natAbs (rd (pos 3 *ℤ rd (c .times3 .result))) ≤ 200000000)
+    × ((natAbs (rd (cosined c .cosine .result)) ≤ 1073742006)
+    × ((natAbs (rd a) ≤ 1073741824) × (natAbs (rd b) ≤ 1073741824))))
 asked c a b h k = (
   size (vrho (c .before)) (lit≤ tt),
   (
@@ -203,11 +197,11 @@ same p q r s t = λ i. component (p i) (q i) (r i) (s i) (t i)
 given-back :
     (c : tie.After-times3) (r a b d : ℤ)
     → mag r < 2 ^ 63
-    → r ≡ component (held (c .before .times2 .result)) (held (pos 3 *ℤ held (c .times3 .result))) (held (cosined c .cosine .result)) (held a) (held b)
+    → r ≡ component (rd (c .before .times2 .result)) (rd (pos 3 *ℤ rd (c .times3 .result))) (rd (cosined c .cosine .result)) (rd a) (rd b)
     → natAbs a ≤ E
     → natAbs b ≤ E
     → b ≡ d
-    → held r
+    → rd r
     ≡ component (times (Hc (start c)) (Pc (start c))) (pos 3 *ℤ times (Sc (start c)) (Cc (start c))) (Cc (start c)) a d
 given-back c r a b d ok e h k l =
     answered r ok
@@ -234,14 +228,8 @@ cosine-requires c κs = (direction (c .before .before) .each, within-d c)
 mul-near : tie.Need-mul-near
 mul-near c = fit (v* (lit 6078) (vK (c .before .before))) (lit< tt)
 
-near-requires : tie.Need-near-requires
-near-requires c κs = search needs
-
 mul-near-2 : tie.Need-mul-near-2
 mul-near-2 c = fit (v* (lit 847) (vK (c .before .before .before))) (lit< tt)
-
-near-requires-2 : tie.Need-near-requires-2
-near-requires-2 c κs = search needs
 
 times-requires : tie.Need-times-requires
 times-requires c κs = fit (v* (vC (c .before .before)) (vC (c .before .before))) (lit< tt)
@@ -306,9 +294,9 @@ part-spec =
     units-requires
     cosine-requires
     mul-near
-    near-requires
+    (λ c κs. search needs)
     mul-near-2
-    near-requires-2
+    (λ c κs. search needs)
     times-requires
     legendre-requires
     times-requires-2

@@ -46,63 +46,6 @@ found c =
 rows-holds : tie.Need-rows-holds Inv-loop μ-loop Inv-rows μ-rows
 rows-holds c = (omega arith, ap (scan (c .before .args .bodies .now) 0) (sub-zero (c .before .args .rows)))
 
-loop-holds : tie.Need-loop-holds Inv-loop μ-loop Inv-rows μ-rows
-loop-holds c = omega arith
-
-mul-whole-of : tie.Need-mul-whole-of Inv-loop μ-loop Inv-rows μ-rows
-mul-whole-of c = omega arith
-
-add-whole-of : tie.Need-add-whole-of Inv-loop μ-loop Inv-rows μ-rows
-add-whole-of c = omega arith
-
-mul-whole-of-2 : tie.Need-mul-whole-of-2 Inv-loop μ-loop Inv-rows μ-rows
-mul-whole-of-2 c = omega arith
-
-shared-slice-read-whole-of : tie.Need-shared-slice-read-whole-of Inv-loop μ-loop Inv-rows μ-rows
-shared-slice-read-whole-of c = omega arith
-
-whole-of-requires : tie.Need-whole-of-requires Inv-loop μ-loop Inv-rows μ-rows
-whole-of-requires c κs = search needs
-
-add-j : tie.Need-add-j Inv-loop μ-loop Inv-rows μ-rows
-add-j c = omega arith
-
-loop-less : tie.Need-loop-less Inv-loop μ-loop Inv-rows μ-rows
-loop-less c = omega arith
-
-loop-again : tie.Need-loop-again Inv-loop μ-loop Inv-rows μ-rows
-loop-again c = omega arith
-
-mul-body-at : tie.Need-mul-body-at Inv-loop μ-loop Inv-rows μ-rows
-mul-body-at c = omega arith
-
-body-at-requires : tie.Need-body-at-requires Inv-loop μ-loop Inv-rows μ-rows
-body-at-requires c κs = omega arith
-
-see-requires : tie.Need-see-requires Inv-loop μ-loop Inv-rows μ-rows
-see-requires c κs = search needs
-
-mul-body-at-2 : tie.Need-mul-body-at-2 Inv-loop μ-loop Inv-rows μ-rows
-mul-body-at-2 c = omega arith
-
-add-body-at : tie.Need-add-body-at Inv-loop μ-loop Inv-rows μ-rows
-add-body-at c = omega arith
-
-body-at-requires-2 : tie.Need-body-at-requires-2 Inv-loop μ-loop Inv-rows μ-rows
-body-at-requires-2 c κs = omega arith
-
-see-requires-2 : tie.Need-see-requires-2 Inv-loop μ-loop Inv-rows μ-rows
-see-requires-2 c κs = search needs
-
-both-requires : tie.Need-both-requires Inv-loop μ-loop Inv-rows μ-rows
-both-requires c κs = search needs
-
-add-i : tie.Need-add-i Inv-loop μ-loop Inv-rows μ-rows
-add-i c = omega arith
-
-rows-less : tie.Need-rows-less Inv-loop μ-loop Inv-rows μ-rows
-rows-less c = omega arith
-
 rows-again : tie.Need-rows-again Inv-loop μ-loop Inv-rows μ-rows
 rows-again c =
     let r = c .before .before .before .before .before .before .before .before .before in
@@ -158,25 +101,25 @@ scan-spec =
     Inv-rows
     μ-rows
     rows-holds
-    loop-holds
-    mul-whole-of
-    add-whole-of
-    mul-whole-of-2
-    shared-slice-read-whole-of
-    whole-of-requires
-    add-j
-    loop-less
-    loop-again
-    mul-body-at
-    body-at-requires
-    see-requires
-    mul-body-at-2
-    add-body-at
-    body-at-requires-2
-    see-requires-2
-    both-requires
-    add-i
-    rows-less
+    (λ c. omega arith)
+    (λ c. omega arith)
+    (λ c. omega arith)
+    (λ c. omega arith)
+    (λ c. omega arith)
+    (λ c κs. search needs)
+    (λ c. omega arith)
+    (λ c. omega arith)
+    (λ c. omega arith)
+    (λ c. omega arith)
+    (λ c κs. omega arith)
+    (λ c κs. search needs)
+    (λ c. omega arith)
+    (λ c. omega arith)
+    (λ c κs. omega arith)
+    (λ c κs. search needs)
+    (λ c κs. search needs)
+    (λ c. omega arith)
+    (λ c. omega arith)
     rows-again
     returns
     returns-2

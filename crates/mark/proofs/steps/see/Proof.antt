@@ -46,12 +46,6 @@ module _ (low high : ℕ) (v : BodyVector) (p : Placed) (e : p ≡ placedOf v) w
       let w : p .at ≡ wholes v = is-at ∙ k .1 in
       rw (sym is-finite ∙ not-false (p .finite) f, k .0, t, w)
 
-wholes-of-requires : tie.Need-wholes-of-requires
-wholes-of-requires c κs = search needs
-
-squares-within-requires : tie.Need-squares-within-requires
-squares-within-requires c κs = search needs
-
 returns : tie.Need-returns
 returns c =
     let w = c .before .before in
@@ -80,4 +74,4 @@ returns-3 c =
 
 pub see-spec : {M : Type 1} → statement M
 see-spec =
-    tie.close (tie.spec wholes-of-requires returns squares-within-requires returns-2 returns-3)
+    tie.close (tie.spec (λ c κs. search needs) returns (λ c κs. search needs) returns-2 returns-3)

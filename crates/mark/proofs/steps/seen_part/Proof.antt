@@ -34,9 +34,6 @@ asked r0 k0 u at r f g h = rw (toZ-ofZ f, toZ-ofZ g) h
 told : (r0 k0 : ℤ) (u at p : Vec3) (r : ℕ) → SFits w64 r0 → SFits w64 k0 → p ≡ partOf (natAbs (rd r0)) (natAbs (rd k0)) u at r → r ≡ lengthOf at → p ≡ partOf (natAbs r0) (natAbs k0) u at (lengthOf at)
 told r0 k0 u at p r f g e h = e ∙ rw (toZ-ofZ f, toZ-ofZ g, h)
 
-root-requires : tie.Need-root-requires
-root-requires c κs = search needs
-
 far : (c : tie.After-root) → c .root .result ≡ lengthOf (c .before .args .s .at)
 far c = distance (c .before .args .s) (c .root .result) (c .root .ensures) (c .before .pre .1 .1 .1 .1 .1 .0)
 
@@ -73,4 +70,4 @@ returns c =
     told (a .r0) (a .k0) (a .u) (a .s .at) (c .part .result) (k .root .result) (k .before .fits .r0) (k .before .fits .k0) (c .part .ensures) (far k)
 
 pub seen-part-spec : {M : Type 1} → statement M
-seen-part-spec = tie.close (tie.spec root-requires part-requires returns)
+seen-part-spec = tie.close (tie.spec (λ c κs. search needs) part-requires returns)

@@ -18,9 +18,6 @@ use Rattle.mark.proofs.steps.squares_within.Tie as tie
 size : (r : ℕ) (z : ℤ) → SFits w64 z → r ≡ natAbs (toZ w64 (ofZ w64 z)) → r ≡ natAbs z
 size r z f e = e ∙ ap natAbs (toZ-ofZ f)
 
-magnitude-requires : tie.Need-magnitude-requires
-magnitude-requires c κs = search needs
-
 x-is : (c : tie.After-magnitude) → c .magnitude .result ≡ natAbs (c .before .before .args .v .x)
 x-is c = size (c .magnitude .result) (c .before .before .args .v .x) (record { sfits = c .before .struct-told .given .0 .1 }) (c .magnitude .ensures)
 
@@ -29,9 +26,6 @@ returns c =
     let v = c .before .before .before .args .v in
     sym (length-above (c .before .before .before .args .low) (c .before .before .before .args .high) v (omega (arith, x-is (c .before), within-length v .x, c .if1 .taken)))
 
-magnitude-requires-2 : tie.Need-magnitude-requires-2
-magnitude-requires-2 c κs = search needs
-
 y-is : (c : tie.After-magnitude2) → c .magnitude2 .result ≡ natAbs (c .before .before .before .before .before .args .v .y)
 y-is c = size (c .magnitude2 .result) (c .before .before .before .before .before .args .v .y) (record { sfits = c .before .struct-told2 .given .1 .0 .1 }) (c .magnitude2 .ensures)
 
@@ -39,9 +33,6 @@ returns-2 : tie.Need-returns-2
 returns-2 c =
     let a = c .before .before .before .before .before .before .args in
     sym (length-above (a .low) (a .high) (a .v) (omega (arith, y-is (c .before), within-length (a .v) .y, c .if2 .taken)))
-
-magnitude-requires-3 : tie.Need-magnitude-requires-3
-magnitude-requires-3 c κs = search needs
 
 z-is : (c : tie.After-magnitude3) → c .magnitude3 .result ≡ natAbs (c .before .before .before .before .before .before .before .before .args .v .z)
 z-is c = size (c .magnitude3 .result) (c .before .before .before .before .before .before .before .before .args .v .z) (record { sfits = c .before .struct-told3 .given .1 .1 .0 .1 }) (c .magnitude3 .ensures)
@@ -102,9 +93,6 @@ returns-4 c =
     let a = c .before .before .before .before .before .before .before .before .before .before .args in
     sym (squares-below (a .low) (a .high) (a .v) (subst (λ (n : ℕ). n < a .low * a .low) (sum-is (c .before)) (c .if4 .taken)))
 
-add-if5 : tie.Need-add-if5
-add-if5 c = search needs
-
 mul-if5 : tie.Need-mul-if5
 mul-if5 c =
     let h : ℕ = c .before .before .before .before .before .before .before .before .before .before .args .high in
@@ -126,11 +114,11 @@ pub squares-within-spec : {M : Type 1} → statement M
 squares-within-spec =
     tie.close
     (tie.spec
-    magnitude-requires
+    (λ c κs. search needs)
     returns
-    magnitude-requires-2
+    (λ c κs. search needs)
     returns-2
-    magnitude-requires-3
+    (λ c κs. search needs)
     returns-3
     mul-n
     mul-n-2
@@ -139,7 +127,7 @@ squares-within-spec =
     add-n-2
     mul-if4
     returns-4
-    add-if5
+    (λ c. search needs)
     mul-if5
     returns-5
     returns-6)

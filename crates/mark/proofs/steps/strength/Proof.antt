@@ -49,9 +49,6 @@ vk0 c = given (c .fits .k0) (le-of-lt (c .pre .1 .1 .0))
 mul-near : tie.Need-mul-near
 mul-near c = fit (product c) (product-fits c)
 
-near-requires : tie.Need-near-requires
-near-requires c κs = search needs
-
 times-requires : tie.Need-times-requires
 times-requires c κs = fit (v* (vq c) (vq c)) (lit< tt)
 
@@ -80,4 +77,4 @@ returns c =
 pub strength-spec : {M : Type 1} → statement M
 strength-spec =
     tie.close
-    (tie.spec mul-near near-requires times-requires times-requires-2 times-requires-3 returns)
+    (tie.spec mul-near (λ c κs. search needs) times-requires times-requires-2 times-requires-3 returns)

@@ -11,12 +11,6 @@ use Rattle.mark.specs.Mark.{times}
 use Rattle.mark.proofs.steps.times.Statement.{statement}
 use Rattle.mark.proofs.steps.times.Tie as tie
 
-mul-near : tie.Need-mul-near
-mul-near c = search needs
-
-near-requires : tie.Need-near-requires
-near-requires c κs = search needs
-
 -- the product as the machine has it
 product : (x y : ℤ) → SFits w64 x → SFits w64 y → SFits w64 (x *ℤ y) → toZ w64 (ofZ w64 (toZ w64 (ofZ w64 x) *ℤ toZ w64 (ofZ w64 y))) ≡ x *ℤ y
 product x y f g h =
@@ -34,4 +28,4 @@ returns c =
     ∙ rounded (c .before .args .x) (c .before .args .y) _ (product (c .before .args .x) (c .before .args .y) (c .before .fits .x) (c .before .fits .y) (c .before .pre))
 
 pub times-spec : {M : Type 1} → statement M
-times-spec = tie.close (tie.spec mul-near near-requires returns)
+times-spec = tie.close (tie.spec (λ c. search needs) (λ c κs. search needs) returns)

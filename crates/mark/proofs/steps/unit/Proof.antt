@@ -20,9 +20,6 @@ product c = v* (given (c .fits .m) (le-of-lt (c .pre))) (lit E)
 mul-near : tie.Need-mul-near
 mul-near c = fit (product c) (lit< tt)
 
-near-requires : tie.Need-near-requires
-near-requires c κs = search needs
-
 named : (l : ℕ) (m z : ℤ) → z ≡ m *ℤ pos E → near z l ≡ unit l m
 unfolding unit
 named l m z e = ap (λ (p : ℤ). near p l) e
@@ -34,4 +31,4 @@ returns c =
     ∙ named (c .before .args .l) (c .before .args .m) _ (at (product (c .before)) (lit< tt) .told)
 
 pub unit-spec : {M : Type 1} → statement M
-unit-spec = tie.close (tie.spec mul-near near-requires returns)
+unit-spec = tie.close (tie.spec mul-near (λ c κs. search needs) returns)

@@ -6,16 +6,10 @@ use Rattle.mark.proofs.LengthLaws.{root-within}
 use Rattle.mark.proofs.steps.whole_length.Statement.{statement}
 use Rattle.mark.proofs.steps.whole_length.Tie as tie
 
-squares-within-requires : tie.Need-squares-within-requires
-squares-within-requires c κs = search needs
-
-root-requires : tie.Need-root-requires
-root-requires c κs = search needs
-
 returns : tie.Need-returns
 returns c =
     let a = c .before .before .args in
     c .root .ensures ∙ ap root (c .before .squares-within .ensures) ∙ root-within (a .low) (a .high) (a .v)
 
 pub whole-length-spec : {M : Type 1} → statement M
-whole-length-spec = tie.close (tie.spec squares-within-requires root-requires returns)
+whole-length-spec = tie.close (tie.spec (λ c κs. search needs) (λ c κs. search needs) returns)

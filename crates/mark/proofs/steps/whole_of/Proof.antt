@@ -38,17 +38,8 @@ from : (x : Float) (r : Rounded) → r ≡ shown (wholeOf x) → told r ≡ coor
 unfolding coordinateOf
 from x r e = ap told e ∙ told-is (wholeOf x)
 
-whole-requires : tie.Need-whole-requires
-whole-requires c κs = search needs
-
 enum-told : tie.Need-enum-told
 enum-told c = search needs
-
-enum-told-2 : tie.Need-enum-told-2
-enum-told-2 c = search needs
-
-enum-known-w : tie.Need-enum-known-w
-enum-known-w c = search needs
 
 returns : tie.Need-returns
 returns c = from (c .before .before .before .args .x) NotFinite (sym (c .enum-told .given .1) ∙ c .before .before .whole .ensures)
@@ -65,4 +56,4 @@ returns-3 c =
 pub whole-of-spec : {M : Type 1} → statement M
 whole-of-spec =
     tie.close
-    (tie.spec whole-requires enum-told enum-told-2 enum-known-w returns returns-2 returns-3)
+    (tie.spec (λ c κs. search needs) enum-told (λ c. search needs) (λ c. search needs) returns returns-2 returns-3)

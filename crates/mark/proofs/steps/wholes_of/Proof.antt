@@ -15,15 +15,6 @@ use Rattle.mark.specs.Bodies.{wholes, finite, coordinateOf, placedOf}
 use Rattle.mark.proofs.steps.wholes_of.Statement.{statement}
 use Rattle.mark.proofs.steps.wholes_of.Tie as tie
 
-whole-of-requires : tie.Need-whole-of-requires
-whole-of-requires c κs = search needs
-
-whole-of-requires-2 : tie.Need-whole-of-requires-2
-whole-of-requires-2 c κs = search needs
-
-whole-of-requires-3 : tie.Need-whole-of-requires-3
-whole-of-requires-3 c κs = search needs
-
 -- a && b as its two branches leave it
 both-true : (t a b : Bool) → a ≡ true → t ≡ b → t ≡ a && b
 both-true t true b p q = q
@@ -67,4 +58,4 @@ returns c =
 
 pub wholes-of-spec : {M : Type 1} → statement M
 wholes-of-spec =
-    tie.close (tie.spec whole-of-requires whole-of-requires-2 whole-of-requires-3 returns)
+    tie.close (tie.spec (λ c κs. search needs) (λ c κs. search needs) (λ c κs. search needs) returns)

@@ -1,11 +1,11 @@
--- The formulas as the steps of 01 order them: fractions of one value, for any fractions in the places of A, T, K and the rest.
+-- Fractions of one value in another order: the exact formulas as the steps of the paper order them, for any fractions in the places of A, T, K
+-- and the rest.
 use mathlib.Core.List.{[], _∷_}
 use Prim.Native.Nat.{ℕ, _<_}
 use lib.IntN.{pos}
-use Rattle.algebra.specs.Fraction.{Fraction, Positive, _≈_, divisor, whole, wholly, negᶠ, _+ᶠ_, _-ᶠ_, _*ᶠ_, _·ᶠ_, _÷ᶠ_}
+use Rattle.algebra.specs.Fraction.{Fraction, Positive, _≈_, divisor, whole, wholly, timesᵖ, negᶠ, _+ᶠ_, _-ᶠ_, _*ᶠ_, _·ᶠ_, _÷ᶠ_}
 use Rattle.algebra.proofs.Ring.{quote, by-ring}
 use Rattle.algebra.proofs.SameValue.{≈-refl, ≈-sym, ≈-trans, plus-≈, mul-≈, by-≈}
-use Rattle.laws.specs.Formulas.{inMetres, Re, strengthAt}
 
 -- ---- products
 
@@ -73,13 +73,13 @@ by-mul X Y D =
           tt;
     }
 
--- the reference distance r0 and the distance R, in one unit of n metres
+-- the reference distance r0 and the distance R, in one unit, n of a smaller one
 module _ (n r0 : ℕ) (p : 0 < r0) (R : Positive) where
   abbrev reference : Positive
-  reference = inMetres n (wholly r0 p)
+  reference = timesᵖ n (wholly r0 p)
 
   abbrev distance : Positive
-  distance = inMetres n R
+  distance = timesᵖ n R
 
   abbrev nearness : Fraction
   nearness = whole (pos r0) ÷ᶠ R
@@ -101,11 +101,10 @@ module _ (n r0 : ℕ) (p : 0 < r0) (R : Positive) where
   nearer₃ : (X : Fraction) → X ÷ᶠ reference ÷ᶠ distance ÷ᶠ distance *ᶠ nearness ≈ X ÷ᶠ distance ÷ᶠ distance ÷ᶠ distance
   nearer₃ X = ≈-trans (by-mul (X ÷ᶠ reference ÷ᶠ distance) nearness distance) (by-≈ distance (nearer₂ X))
 
-  -- K at the reference distance times (r0/R)³ is K at R
-  pub strength-same : (gm : Fraction) → strengthAt gm reference *ᶠ (nearness *ᶠ nearness *ᶠ nearness) ≈ strengthAt gm distance
-  unfolding strengthAt
-  strength-same gm =
-      let G = gm *ᶠ (Re *ᶠ Re *ᶠ Re *ᶠ Re) in
+  -- over the third power of the reference distance, times (r0/R)³, is over the third power of R
+  pub cubes-same :
+      (G : Fraction) → G ÷ᶠ reference ÷ᶠ reference ÷ᶠ reference *ᶠ (nearness *ᶠ nearness *ᶠ nearness) ≈ G ÷ᶠ distance ÷ᶠ distance ÷ᶠ distance
+  cubes-same G =
       let q = nearness in
       let D = reference in
       let keep : q ≈ q = ≈-refl q in
