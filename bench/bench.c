@@ -71,13 +71,13 @@ static void put(uint8_t *s, int width, int64_t v)
     for (int i = width; i-- > 0; v >>= 8) s[i] = (uint8_t)v;
 }
 
-static void card_of(uint8_t s[88], unsigned long number)
+static void card_of(uint8_t s[NV_CARD], unsigned long number)
 {
     double m[3];
     char site[24];
     direction(between(6357e3, 6378e3), m);
     snprintf(site, sizeof site, "%05luM%03lu", number / 1000 % 100000, number % 1000);
-    memset(s, 0, 88);
+    memset(s, 0, NV_CARD);
     memcpy(s, site, 9);
     put(s + 12, 4, (int64_t)between(-20000, 20000));
     for (int i = 0; i < 3; i++) {
@@ -90,19 +90,19 @@ static void card_of(uint8_t s[88], unsigned long number)
 
 /* Ten calls in a row on one card, each from one buffer into the other; how many were accepted. */
 #define CHAIN(name, pre)                                                                                               \
-    static unsigned name(uint8_t a[88], uint8_t b[88], const double v[6])                                              \
+    static unsigned name(uint8_t a[NV_CARD], uint8_t b[NV_CARD], const double v[6])                                              \
     {                                                                                                                  \
         unsigned yes = 0;                                                                                              \
-        yes += !pre##_move(a, 88, 1461, b, 88);                                                                        \
-        yes += !pre##_frame(b, 88, 1, a, 88);                                                                          \
-        yes += !pre##_mean_on(a, 88, b, 88);                                                                           \
-        yes += !pre##_move(b, 88, -700, a, 88);                                                                        \
-        yes += !pre##_frame(a, 88, 2, b, 88);                                                                          \
-        yes += !pre##_mean_off(b, 88, a, 88);                                                                          \
-        yes += !pre##_solid_on(a, 88, 0, v[0], v[1], v[2], 1, v[3], v[4], v[5], b, 88);                                \
-        yes += !pre##_frame(b, 88, 0, a, 88);                                                                          \
-        yes += !pre##_solid_off(a, 88, b, 88);                                                                         \
-        yes += !pre##_move(b, 88, 4000, a, 88);                                                                        \
+        yes += !pre##_move(a, NV_CARD, 1461, b, NV_CARD);                                                                        \
+        yes += !pre##_frame(b, NV_CARD, 1, a, NV_CARD);                                                                          \
+        yes += !pre##_mean_on(a, NV_CARD, b, NV_CARD);                                                                           \
+        yes += !pre##_move(b, NV_CARD, -700, a, NV_CARD);                                                                        \
+        yes += !pre##_frame(a, NV_CARD, 2, b, NV_CARD);                                                                          \
+        yes += !pre##_mean_off(b, NV_CARD, a, NV_CARD);                                                                          \
+        yes += !pre##_solid_on(a, NV_CARD, 0, v[0], v[1], v[2], 1, v[3], v[4], v[5], b, NV_CARD);                                \
+        yes += !pre##_frame(b, NV_CARD, 0, a, NV_CARD);                                                                          \
+        yes += !pre##_solid_off(a, NV_CARD, b, NV_CARD);                                                                         \
+        yes += !pre##_move(b, NV_CARD, 4000, a, NV_CARD);                                                                        \
         return yes;                                                                                                    \
     }
 
@@ -124,13 +124,13 @@ static void series(int side)
 
 static void calls(int side)
 {
-    uint8_t other[88];
+    uint8_t other[NV_CARD];
     answer[side] = 0;
     for (size_t i = 0; i < count; i++)
-        answer[side] += (side ? plain_chain : our_chain)(cards[side] + 88 * i, other, bodies + 6 * (i % 1000));
+        answer[side] += (side ? plain_chain : our_chain)(cards[side] + NV_CARD * i, other, bodies + 6 * (i % 1000));
 }
 
-static void lookup(int side) { answer[side] = (side ? plain_find : nv_find)(catalogue, 88 * count, key, 9); }
+static void lookup(int side) { answer[side] = (side ? plain_find : nv_find)(catalogue, NV_CARD * count, key, 9); }
 
 /* Nanoseconds of the best turn of each side, once the turns took half a second, nine of each at least. `again` makes the input anew. */
 static void race(const char *what, size_t each, void (*turn)(int), void (*again)(void))
@@ -155,7 +155,7 @@ static void race(const char *what, size_t each, void (*turn)(int), void (*again)
 
 static void fresh_cards(void)
 {
-    for (int side = 0; side < 2; side++) memcpy(cards[side], fresh, 88 * count);
+    for (int side = 0; side < 2; side++) memcpy(cards[side], fresh, NV_CARD * count);
 }
 
 static void all_of(size_t n)
@@ -164,31 +164,31 @@ static void all_of(size_t n)
     size_t rows = n < 1000 ? 1000 : n;
     bodies = room(6 * rows, sizeof *bodies);
     for (size_t i = 0; i < rows; i++) two_bodies(bodies + 6 * i);
-    fresh = room(n, 88);
-    catalogue = room(n, 88);
+    fresh = room(n, NV_CARD);
+    catalogue = room(n, NV_CARD);
     for (int side = 0; side < 2; side++) {
         tides[side] = room(3 * n, sizeof **tides);
-        cards[side] = room(n, 88);
+        cards[side] = room(n, NV_CARD);
     }
     /* 1,000,003 and the number of sites have no common factor: every site once, in no order */
-    for (size_t i = 0; i < n; i++) card_of(fresh + 88 * i, (unsigned long)(1000003 * (i + 1) % 100000000));
+    for (size_t i = 0; i < n; i++) card_of(fresh + NV_CARD * i, (unsigned long)(1000003 * (i + 1) % 100000000));
 
     race("series, rows", n, series, NULL);
     agree(answer[0] == 256 * (uint64_t)n && !memcmp(tides[0], tides[1], 24 * n), "series");
 
     race("calls, cards of 10 calls", n, calls, fresh_cards);
-    agree(answer[0] == 10 * (uint64_t)n && !memcmp(cards[0], cards[1], 88 * n), "calls");
+    agree(answer[0] == 10 * (uint64_t)n && !memcmp(cards[0], cards[1], NV_CARD * n), "calls");
 
-    memcpy(catalogue, fresh, 88 * n);
-    memcpy(key, catalogue + 88 * (n - 1), 9);
+    memcpy(catalogue, fresh, NV_CARD * n);
+    memcpy(key, catalogue + NV_CARD * (n - 1), 9);
     race("lookup, records", n, lookup, NULL);
-    agree(answer[0] == 88 * (n - 1), "lookup");
+    agree(answer[0] == NV_CARD * (n - 1), "lookup");
 
     /* the dearest catalogue: every record but the last is unlike in the ninth byte only */
-    for (size_t i = 0; i < n; i++) memcpy(catalogue + 88 * i, i + 1 < n ? "12345M678" : "12345M679", 9);
+    for (size_t i = 0; i < n; i++) memcpy(catalogue + NV_CARD * i, i + 1 < n ? "12345M678" : "12345M679", 9);
     memcpy(key, "12345M679", 9);
     race("lookup, eight bytes like", n, lookup, NULL);
-    agree(answer[0] == 88 * (n - 1), "lookup");
+    agree(answer[0] == NV_CARD * (n - 1), "lookup");
 
     free(bodies), free(fresh), free(catalogue);
     for (int side = 0; side < 2; side++) free(tides[side]), free(cards[side]);
@@ -198,10 +198,10 @@ int main(int argc, char **argv)
 {
     if (argc == 3) {
         FILE *f = fopen(argv[1], "wb");
-        uint8_t s[88];
+        uint8_t s[NV_CARD];
         for (unsigned long i = 0, n = strtoul(argv[2], NULL, 10); f && i < n; i++) {
             card_of(s, i);
-            if (fwrite(s, 88, 1, f) != 1) break;
+            if (fwrite(s, NV_CARD, 1, f) != 1) break;
         }
         if (!f || fclose(f)) return perror(argv[1]), 1;
         return 0;

@@ -4,7 +4,7 @@
 #include <math.h>
 #include <string.h>
 
-enum { CARD = 88, EPOCHS = 146100, SPEEDS = 500000 };
+enum { CARD = NV_CARD, EPOCHS = 146100, SPEEDS = 500000 };
 
 static const int64_t METRE = 1461000000; /* grains */
 static const int64_t E = 1 << 30;

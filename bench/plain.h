@@ -4,6 +4,7 @@
 
 #include <stddef.h>
 #include <stdint.h>
+#include "netvjesha.h"
 
 /* A card as C holds it. Units are the record's: whole metres, micrometres a year, grains. */
 struct card {

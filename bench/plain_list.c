@@ -4,7 +4,7 @@
 
 int main(void)
 {
-    uint8_t part[88];
+    uint8_t part[NV_CARD];
     char line[120];
     size_t n;
     while ((n = fread(part, 1, sizeof part, stdin)) > 0)

@@ -77,6 +77,11 @@ uint32_t nv_expand(const uint8_t *field, size_t field_len, uint8_t *out, size_t 
 
 /* ---- Catalogues: cards one after another, 88 bytes each, no header ---- */
 
+/* Checks a whole catalogue: its length, then every card up to the first bad one.
+ * Answers the status + 256 x (the number of cards when accepted; the place of the first bad card, counted in cards from 0; 0 with 14).
+ * Status: 14 len is no multiple of 88; then the first bad card's own, 2, 3, 4, 5, 6, 7, 8, 9. */
+uint64_t nv_check_catalogue(const uint8_t *catalogue, size_t len);
+
 /* Looks a site up: the first record whose first nine bytes are the key's. The record itself is not judged; nv_check does that.
  * Status: 2 the key is not nine bytes of a site's shape; then 14 len is no multiple of 88; then 15 no such record. */
 uint32_t nv_find_number(const uint8_t *catalogue, size_t len, const uint8_t *key, size_t key_len);

@@ -1,4 +1,4 @@
-"""The card: its value, its checks 2 to 9, its 88 bytes.
+"""The card: its value, its checks 2 to 9, its bytes.
 
 A card value may hold anything: nine bytes of site, a frame and a tide byte,
 and thirteen signed 64-bit numbers. Byte 11 has no place in the value.
@@ -11,7 +11,7 @@ from frames import known
 from mark import good_mark
 from units import METRE, ZERO, minus, times, within
 
-SIZE = 88
+SIZE = 88                           # bytes of a card
 EPOCH_MOST = 146_100                # quarter-days either side of 2000.0
 VELOCITY_MOST = 500_000             # micrometres a year
 POSITION_MOST = 1_000 * METRE       # grains from the mark
@@ -92,7 +92,7 @@ def read(record):
 
 
 def to_bytes(card):
-    """The 88 bytes of a card that passes check."""
+    """The bytes of a card that passes check."""
     return struct.pack(LAYOUT, card.site, card.frame, card.tide, 0, card.epoch,
                        *card.mark, *card.velocity, *card.position, *card.vector)
 

@@ -7,7 +7,7 @@ import calls
 import field
 import frames
 import listing
-from card import Card, check, read, to_bytes
+from card import SIZE, Card, check, read, to_bytes
 from permanent import shift
 from rounding import near, whole
 from solid import part
@@ -76,7 +76,7 @@ def case_10(t):
 def case_11(t):
     for grains, wanted in ((73_050, 1), (73_049, 0), (-73_050, -1)):
         card = at_mark(EQUATOR, position=(EQUATOR[0] * METRE + grains, 0, 0))
-        number, record = field.export(card, bytes(48))
+        number, record = field.export(card, bytes(field.SIZE))
         got = int.from_bytes(record[28:32], "big", signed=True)
         t.same(f"{grains}", (number, got), (0, wanted))
 
@@ -90,7 +90,7 @@ def case_13(t):
     record = to_bytes(at_mark(EQUATOR))
     line = "90001M001 0 0 9318458157000000 0 0\n"
     t.same("line", listing.lines(record), line)
-    t.same("short last part", listing.lines(record + bytes(87)), line + "refused 1\n")
+    t.same("short last part", listing.lines(record + bytes(SIZE - 1)), line + "refused 1\n")
     t.same("no input", listing.lines(b""), "")
     t.same("read back", read(record), (0, at_mark(EQUATOR)))
 

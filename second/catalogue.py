@@ -1,4 +1,4 @@
-"""A catalogue: cards end to end. Lookup by site, and a reader with a place.
+"""A catalogue: cards end to end. Lookup by site, a reader with a place, a check of all.
 
 Once done, a reader stays done; an empty catalogue is done at the first call.
 """
@@ -11,7 +11,7 @@ DONE = "done"
 def lookup(catalogue, key):
     """(number, part): 2, 14, 15, or the first record whose site is the key.
 
-    An empty catalogue is a multiple of 88 bytes, so it gives 15.
+    An empty catalogue is a multiple of a card's length, so it gives 15.
     """
     if not site_shape(key):
         return 2, b""
@@ -37,3 +37,19 @@ class Reader:
         part = self.catalogue[self.place:self.place + SIZE]
         self.place += len(part)
         return read(part)
+
+
+def check(catalogue):
+    """(number, place): 14 and 0, the first bad card, or 0 and the count of cards.
+
+    Places are counted in cards from 0. Every part is as long as a card, so 1 is
+    never given. An empty catalogue gives 0 and 0.
+    """
+    if len(catalogue) % SIZE:
+        return 14, 0
+    count = len(catalogue) // SIZE
+    for place in range(count):
+        number, _ = read(catalogue[place * SIZE:(place + 1) * SIZE])
+        if number:
+            return number, place
+    return 0, count

@@ -1,4 +1,4 @@
-"""The field record, 48 bytes: export from a card, expand to a card.
+"""The field record: export from a card, expand to a card.
 
 Refusal 4 covers byte 10 (only 0 or 1), byte 11 and bytes 46-47. The order is
 that of the card's checks, not of the bytes: velocity (7) before offset (8).
@@ -12,7 +12,7 @@ from mark import good_mark
 from rounding import near
 from units import METRE, TENTH_MM, ZERO, plus, times, within
 
-SIZE = 48
+SIZE = 48                 # bytes of a field record
 OFFSET_MOST = 10_000_000  # units of 0.1 mm
 VELOCITY_MOST = 5_000     # units of 100 micrometres a year
 VELOCITY_UNIT = 100       # micrometres a year

@@ -13,7 +13,7 @@ I32 = 1 << 31
 
 
 def record(card, byte_11=0):
-    """The 88 bytes of any card whose numbers fit, else None."""
+    """The bytes of any card whose numbers fit, else None."""
     small = (card.epoch, *card.mark, *card.velocity)
     if not all(-I32 <= v < I32 for v in small):
         return None
@@ -23,9 +23,10 @@ def record(card, byte_11=0):
 
 def wrong_lengths(data):
     """Too short and too long by one and by much, and nothing at all."""
-    for n in (0, 1, 9, 47, 48, 49, 87, 88, 89, 96, 176):
+    for n in (0, 1, 9, field.SIZE - 1, field.SIZE, field.SIZE + 1, cards.SIZE - 1, cards.SIZE,
+              cards.SIZE + 1, cards.SIZE + 8, 2 * cards.SIZE):
         if n != len(data):
-            yield (data * 4)[:n]
+            yield (data * n)[:n]
 
 
 def reads(rng):
@@ -37,12 +38,12 @@ def reads(rng):
         yield record(damage.base(rng), byte)
         yield record(damage.base(rng)._replace(epoch=146_101), byte)
     yield from wrong_lengths(record(damage.base(rng)))
-    for i in range(88):  # each byte damaged once
+    for i in range(cards.SIZE):  # each byte damaged once
         data = bytearray(record(sample.card(rng)))
         data[i] ^= 1 << rng.randrange(8)
         yield bytes(data)
     for _ in range(10):
-        yield rng.randbytes(88)
+        yield rng.randbytes(cards.SIZE)
         yield record(sample.card(rng))
 
 
@@ -119,7 +120,8 @@ def lent(size, card):
 
 
 def wrong_buffers(rng, right):
-    for size in (0, 1, 47, 48, 49, 87, 88, 89, 200):
+    for size in (0, 1, field.SIZE - 1, field.SIZE, field.SIZE + 1, cards.SIZE - 1, cards.SIZE,
+                 cards.SIZE + 1, 200):
         if size != right:
             yield lent(size, sample.card(rng))
             yield lent(size, damage.SPOIL[size % 8](damage.base(rng, 2)))

@@ -1,7 +1,7 @@
 """Writes the vectors of docs/VECTORS.md: make_vectors.py OUTDIR.
 
-OUTDIR/stdin and OUTDIR/stdout, and beside this folder docs/VECTORS-COUNT.md
-with the count of vectors per kind and of calls per refusal number.
+OUTDIR/stdin, OUTDIR/stdout, and OUTDIR/VECTORS-COUNT.md with the count of
+vectors per kind and of calls per refusal number. Nothing else is touched.
 """
 
 import os
@@ -16,8 +16,12 @@ import replay
 import wire
 from chance import Chance
 
-SEED = 36
 MOST = 3_000_000  # bytes of stdin
+
+# Each source and its seed. A new one comes last, so that what stands stays as it is.
+SOURCES = ((gen_numbers.share, 36), (gen_tides.payloads, 37), (gen_records.payloads, 38),
+           (gen_calls.payloads, 39), (gen_catalogue.payloads, 40),
+           (gen_numbers.payloads, 1461), (gen_catalogue.checks, 41))
 
 # Every number that each call can give; "own" are those after its card's check.
 CARD = (2, 3, 4, 5, 6, 7, 8, 9)
@@ -26,6 +30,7 @@ CAN_GIVE = {
     "read": (0, 1, *CARD), "write": (0, 1, *CARD), "export": (0, 1, *CARD, 12),
     "expand": (0, 1, 2, 3, 4, 5, 6, 7, 8), "metres": (0, *CARD),
     "lookup": (0, 2, 14, 15), "reader": (0, 1, *CARD, "done"), "list line": (0, 1, *CARD),
+    "catalogue check": (0, *CARD, 14),
 }
 OWN = {"move": (0, 13, 5, 8), "frame": (0, 3, 7, 8), "mean on": (0, 12, 8),
        "mean off": (0, 12, 8), "solid on": (0, 12, 17, 10, 11, 8), "solid off": (0, 12, 8)}
@@ -33,9 +38,8 @@ OWN = {"move": (0, 13, 5, 8), "frame": (0, 3, 7, 8), "mean on": (0, 12, 8),
 
 def make():
     data = bytearray()
-    for place, source in enumerate((gen_numbers, gen_tides, gen_records, gen_calls,
-                                    gen_catalogue)):
-        for kind, payload in source.payloads(Chance(SEED + place)):
+    for source, seed in SOURCES:
+        for kind, payload in source(Chance(seed)):
             data += wire.vector(kind, payload)
     return bytes(data)
 
@@ -88,9 +92,7 @@ def main(outdir):
     os.makedirs(outdir, exist_ok=True)
     save(os.path.join(outdir, "stdin"), data)
     save(os.path.join(outdir, "stdout"), "".join(lines).encode("ascii"))
-    docs = os.path.join(os.path.dirname(os.path.abspath(__file__)), "..", "docs")
-    os.makedirs(docs, exist_ok=True)
-    save(os.path.join(docs, "VECTORS-COUNT.md"), count_page(kinds, counts.found).encode("ascii"))
+    save(os.path.join(outdir, "VECTORS-COUNT.md"), count_page(kinds, counts.found).encode("ascii"))
     print(f"{len(lines)} vectors, {len(data)} bytes of stdin")
 
 

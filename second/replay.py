@@ -160,12 +160,18 @@ def do_line(payload, counts):
     return listing.line(payload)
 
 
+def do_check(payload, counts):
+    number, place = catalogue.check(payload)
+    counts.note("catalogue check", number)
+    return wire.text(number, place)
+
+
 ANSWER = {wire.NEAR: do_near, wire.ROOT: do_root, wire.WHOLE: do_whole,
           wire.PERMANENT: do_permanent, wire.ROWS: do_rows, wire.PAIR: do_pair,
           wire.SERIES: do_series, wire.READ: do_read, wire.WRITE: do_write,
           wire.EXPORT: do_export, wire.EXPAND: do_expand, wire.METRES: do_metres,
           wire.CALLS: do_calls, wire.LOOKUP: do_lookup, wire.READER: do_reader,
-          wire.LINE: do_line}
+          wire.LINE: do_line, wire.CHECK: do_check}
 
 
 def answers(data, counts):

@@ -6,12 +6,13 @@ from card import Card
 
 NEAR, ROOT, WHOLE, PERMANENT, ROWS, PAIR, SERIES = 1, 2, 3, 4, 5, 6, 7
 READ, WRITE, EXPORT, EXPAND, METRES, CALLS = 8, 9, 10, 11, 12, 13
-LOOKUP, READER, LINE = 14, 15, 16
+LOOKUP, READER, LINE, CHECK = 14, 15, 16, 17
 
 NAMES = {NEAR: "near", ROOT: "root", WHOLE: "whole", PERMANENT: "permanent",
          ROWS: "frame rows", PAIR: "tide of a pair", SERIES: "series", READ: "read",
          WRITE: "write", EXPORT: "export", EXPAND: "expand", METRES: "metres",
-         CALLS: "calls", LOOKUP: "lookup", READER: "reader", LINE: "list line"}
+         CALLS: "calls", LOOKUP: "lookup", READER: "reader", LINE: "list line",
+         CHECK: "catalogue check"}
 
 MOVE, FRAME, MEAN_ON, MEAN_OFF, SOLID_ON, SOLID_OFF = 1, 2, 3, 4, 5, 6
 CALL_NAMES = {MOVE: "move", FRAME: "frame", MEAN_ON: "mean on", MEAN_OFF: "mean off",

@@ -194,6 +194,10 @@ int main(void)
             input_bytes();
             lend(&out, 0);
             expect(nv_check(in.at, in.size), BYTES);
+        } else if (!strcmp(name, "check_catalogue")) {
+            input_bytes();
+            lend(&out, 0);
+            expect(nv_check_catalogue(in.at, in.size), BYTES);
         } else if (!strcmp(name, "metres")) metres();
         else if (!strcmp(name, "permanent")) permanent();
         else if (!strcmp(name, "series")) series();

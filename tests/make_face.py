@@ -17,7 +17,7 @@ import gen_catalogue
 import sample
 from bodies import MOON, SUN
 from card import SIZE, read, to_bytes
-from catalogue import lookup
+from catalogue import check, lookup
 from chance import Chance
 from mark import good_mark
 from metres import metres
@@ -25,7 +25,7 @@ from permanent import shift
 from series import series
 from units import METRE, plus, times
 
-ROOMS = (88, 0, 1, 87, 89, 176)
+ROOMS = (SIZE, 0, 1, SIZE - 1, SIZE + 1, 2 * SIZE)
 I_MIN, I_MAX = -(1 << 63), (1 << 63) - 1
 
 
@@ -43,7 +43,7 @@ def line(*parts):
 
 def called(record, room, call):
     """(number, bytes) of a card call through the face."""
-    number, card = (1, None) if room != 88 else read(record)
+    number, card = (1, None) if room != SIZE else read(record)
     if number == 0:
         number, card = call(card)
     return (number, b"") if number else (0, to_bytes(card))
@@ -79,8 +79,8 @@ def other_lines(record, rng):
     """The check, the field edition and the metres of one record."""
     number, card = read(record)
     line("check", text(record), number, "-")
-    for room in (48, rng.choice((0, 47, 49, 88))):
-        got, out = (1, b"") if room != 48 else (number, b"") if number else field.export(card, bytes(48))
+    for room in (field.SIZE, rng.choice((0, field.SIZE - 1, field.SIZE + 1, SIZE))):
+        got, out = (1, b"") if room != field.SIZE else (number, b"") if number else field.export(card, bytes(room))
         line("export", text(record), room, got, text(b"" if got else out))
     for room in (3, rng.choice((0, 1, 2, 4))):
         got, out = (1, ()) if room != 3 else (number, ()) if number else metres(card)
@@ -88,7 +88,7 @@ def other_lines(record, rng):
 
 
 def expand_line(record, room):
-    number, card = (1, None) if room != 88 else field.expand(record)
+    number, card = (1, None) if room != SIZE else field.expand(record)
     line("expand", text(record), room, number, "-" if number else text(to_bytes(card)))
 
 
@@ -105,37 +105,37 @@ def records(rng):
     good = to_bytes(sample.card(rng, tide=0, most=METRE))
     for byte in (1, 255):
         yield good[:11] + bytes((byte,)) + good[12:]
-    for size in (0, 1, 48, 87):
+    for size in (0, 1, field.SIZE, SIZE - 1):
         yield good[:size]
     yield good + b"\0"
-    yield bytes(88)
+    yield bytes(SIZE)
 
 
 def solid_lines(rng):
     free, mean = (to_bytes(sample.card(rng, tide=t, most=METRE)) for t in (0, 1))
     for first, second in list(gen_bodies.pairs(rng))[::5] + list(gen_bodies.mixed_pairs(rng)):
-        solid_line(free, 88, first, second)
+        solid_line(free, SIZE, first, second)
     moon, sun = gen_bodies.good(rng, MOON), gen_bodies.good(rng, SUN)
     for k in (0, 1, 2, 3, 128, 255):
         for l in (0, 1, 2, 255):
-            solid_line(free, 88, (k, moon), (l, sun))
-            solid_line(mean, 88, (k, moon), (l, sun))
-            solid_line(free, 88, (l, sun), (k, moon))
+            solid_line(free, SIZE, (k, moon), (l, sun))
+            solid_line(mean, SIZE, (k, moon), (l, sun))
+            solid_line(free, SIZE, (l, sun), (k, moon))
 
 
 def field_lines(rng):
     for tide in (0, 1) * 12:
         card = sample.card(rng, tide=tide)
-        record = field.export(card, bytes(48))[1]
-        for room in (88, rng.choice(ROOMS[1:])):
+        record = field.export(card, bytes(field.SIZE))[1]
+        for room in (SIZE, rng.choice(ROOMS[1:])):
             expand_line(record, room)
         for _ in range(6):
-            at = rng.randrange(48)
-            expand_line(record[:at] + bytes((rng.randrange(256),)) + record[at + 1:], 88)
-    for size in (0, 1, 47):
-        expand_line(record[:size], 88)
+            at = rng.randrange(field.SIZE)
+            expand_line(record[:at] + bytes((rng.randrange(256),)) + record[at + 1:], SIZE)
+    for size in (0, 1, field.SIZE - 1):
+        expand_line(record[:size], SIZE)
         expand_line(record[:size], 0)
-    expand_line(record + b"\0", 88)
+    expand_line(record + b"\0", SIZE)
 
 
 def mark_lines(rng):
@@ -178,16 +178,25 @@ def find_lines(rng):
         line("find", text(key), text(catalogue), place_of(catalogue, key, number, part), "-", number, "-")
 
 
+def check_lines(rng):
+    """Whole catalogues of at most MOST bytes of face.c: number + 256 x place."""
+    for _, payload in gen_catalogue.checks(rng):
+        if len(payload) <= 4096:
+            number, place = check(payload)
+            line("check_catalogue", text(payload), number + 256 * place, "-")
+
+
 def main():
     rng = Chance(2026)
     for record in records(rng):
-        card_lines(record, 88, rng)
+        card_lines(record, SIZE, rng)
         card_lines(record, rng.choice(ROOMS[1:]), rng)
         other_lines(record, rng)
     solid_lines(rng)
     field_lines(rng)
     mark_lines(rng)
     find_lines(rng)
+    check_lines(rng)
 
 
 main()

@@ -33,3 +33,7 @@ and-first a b e = rw e
 pub and-second : (a b : Bool) → b ≡ false → a && b ≡ false
 and-second true b e = e
 and-second false b e = refl
+
+-- past a test that holds the other decides
+pub true-and : (a b : Bool) → a ≡ true → b ≡ a && b
+true-and a b e = rw e

@@ -13,8 +13,8 @@ use native.Mathlib.Omega.{arith}
 use lib.IntN.{ℤ, pos, natAbs, _+ℤ_, _-ℤ_, _*ℤ_}
 use Rattle.algebra.specs.Fraction.{Fraction, Positive, _≈_, divisor, whole, ratio, wholly, _+ᶠ_, _-ᶠ_, _*ᶠ_, _·ᶠ_, _/ᶠ_, _÷ᶠ_}
 use Rattle.algebra.specs.Rounding.{Half}
-use Rattle.algebra.proofs.ErrorNeeds as Needs
 use Rattle.algebra.proofs.IntLaws.{abs-+, abs--, abs-*}
+use Rattle.algebra.proofs.ErrorNeeds as Needs
 
 -- how far x is from s X, times X's denominator
 unfoldable pub miss : ℕ → ℤ → Fraction → ℤ

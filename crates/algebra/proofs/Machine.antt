@@ -124,6 +124,10 @@ less {x} {y} {a} {b} v w e = lt-yes a b (sym (ap₂ ltZ (v .told) (w .told)) ∙
 pub notLess : {x y a b : ℤ} {n m : ℕ} → Va x a n → Va y b m → ltZ x y ≡ false → b ≤ℤ a
 notLess {x} {y} {a} {b} v w e = lt-no a b (sym (ap₂ ltZ (v .told) (w .told)) ∙ e)
 
+-- a size, as it came back
+pub size-of : (r : ℕ) (z : ℤ) → SFits w64 z → r ≡ natAbs (rd z) → r ≡ natAbs z
+size-of r z f e = e ∙ ap natAbs (toZ-ofZ f)
+
 -- ---- the sign, as `a < 0` tells it: a is -(k + 1) or k, with k below 2^63
 
 pub record Negative (a : ℤ) : Type 0 where

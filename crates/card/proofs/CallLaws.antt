@@ -1,27 +1,31 @@
 -- An accepted call's card passes the nine checks again, for every call.
 use mathlib.Core.Path.{_≡_, refl, sym, _∙_, subst}
-use mathlib.Core.Bool.{true, false, not, _&&_}
+use mathlib.Core.Bool.{true, false, not, _&&_, _||_}
 use mathlib.Core.List.{_++_}
 use Prim.Native.Nat.{ℕ, zero, suc, _≤_, _<_}
 use native.Mathlib.Omega.{arith}
-use borrow.Author.Tests.{eqb-true, not-false}
+use borrow.Author.Tests.{eqb-true, ne-eqb, not-false}
 use lib.Dec.{eqb, lit<}
 use lib.IntN.{ℤ, _+ℤ_}
-use Rattle.algebra.proofs.BoolLaws.{both}
-use Rattle.mark.specs.declared.Body.{Body}
+use Rattle.algebra.proofs.BoolLaws.{both, and-left, and-right}
+use Rattle.refusal.specs.Refusal.{Table, first}
+use Rattle.refusal.proofs.RefusalLaws.{positive, NoneHolds, accepted, stays, onward}
 use Rattle.mark.specs.declared.Vec3.{Vec3}
-use Rattle.mark.specs.Mark.{nowhere}
-use Rattle.mark.specs.Permanent.{permanent}
-use Rattle.mark.specs.Frame.{knownFrame}
-use Rattle.mark.specs.Bodies.{moon, sun, inReach, moonOf, sunOf}
-use Rattle.mark.specs.Tide.{plus, tide}
-use Rattle.mark.specs.Refusal.{Table, first}
+use Rattle.mark.specs.Mark.{nowhere, plus, sized, minus, scaled}
 use Rattle.mark.specs.Ranges.{Within}
-use Rattle.mark.proofs.RefusalLaws.{positive, NoneHolds, accepted, stays, onward}
+use Rattle.mark.proofs.SizeLaws.{is-sized}
+use Rattle.frames.specs.Frame.{knownFrame}
+use Rattle.tides.specs.declared.Body.{Body}
+use Rattle.tides.specs.Permanent.{permanent}
+use Rattle.tides.specs.Bodies.{moon, sun, inReach, moonOf, sunOf}
+use Rattle.tides.specs.Tide.{tide}
+use Rattle.tides.proofs.TideLaws.{tide-within}
 use Rattle.card.specs.declared.Card.{Card}
-use Rattle.card.specs.Checks.{sized, isZero, minus, scaled, tideFits, epochFits, velocityFits, positionFits, vectorFits, checks, cardNumber}
+use Rattle.card.specs.Checks.{isZero, tideFits, epochFits, velocityFits, positionFits, vectorFits, checks, cardNumber}
 use Rattle.card.specs.Calls.{Call, move, frame, meanOn, meanOff, solidOn, solidOff, moved, reframed, next, own, callNumber}
-use Rattle.card.proofs.CheckLaws.{Passed, passed, passed-number, is-sized, tide-within, positive-checks}
+use Rattle.card.specs.State.{stateOf, withState, stateFits}
+use Rattle.card.proofs.StateLaws.{state-with, with-fits}
+use Rattle.card.proofs.CheckLaws.{Passed, passed, passed-number, positive-checks}
 
 -- ---- a table in two parts, of which no condition holds
 
@@ -60,17 +64,14 @@ own-accepted c k e = accepted (own c (next c k) k) (positive-own c (next c k) k)
 
 -- ---- byte 10 and the stored vector
 
-zero-vector : (byte : ℕ) (v : Vec3) → byte ≤ 1 → tideFits byte v ≡ true → isZero v ≡ true
+zero-vector : (byte : ℕ) (v : Vec3) → stateOf byte ≤ 1 → tideFits byte v ≡ true → isZero v ≡ true
 unfolding tideFits
-zero-vector zero v h e = e
-zero-vector (suc zero) v h e = e
-zero-vector (suc (suc n)) v h e = absurd (omega arith)
+zero-vector byte v h e = rw (ne-eqb (stateOf byte) 2 (λ q. omega arith)) at (and-right (stateFits byte) (eqb (stateOf byte) 2 || isZero v) e)
 
-zero-fits : (byte : ℕ) (v : Vec3) → byte ≤ 1 → isZero v ≡ true → tideFits byte v ≡ true
+-- another state: with solid tide any vector fits, else a vector of zeros
+other-fits : (byte state : ℕ) (v : Vec3) → stateFits byte ≡ true → state ≤ 2 → eqb state 2 || isZero v ≡ true → tideFits (withState byte state) v ≡ true
 unfolding tideFits
-zero-fits zero v h e = e
-zero-fits (suc zero) v h e = e
-zero-fits (suc (suc n)) v h e = absurd (omega arith)
+other-fits byte state v e h f = rw (with-fits byte state e h, state-with byte state h) f
 
 -- a call's condition on it, passed
 pub byte-is : (n m : ℕ) → not (eqb n m) ≡ false → n ≡ m
@@ -119,8 +120,14 @@ module _ (c : Card) (p : Passed c) where
         solid = p .solid;
       }
 
-  still : (n byte : ℕ) → n ≤ 1 → byte ≤ 1 → c .tide ≡ n → tideFits byte (c .solid) ≡ true
-  still n byte h k e = zero-fits byte (c .solid) k (zero-vector n (c .solid) h (subst (λ (x : ℕ). tideFits x (c .solid) ≡ true) e (p .tide)))
+  known : stateFits (c .tide) ≡ true
+  unfolding tideFits
+  known = and-left (stateFits (c .tide)) (eqb (stateOf (c .tide)) 2 || isZero (c .solid)) (p .tide)
+
+  still : (n state : ℕ) → n ≤ 1 → state ≤ 1 → stateOf (c .tide) ≡ n → tideFits (withState (c .tide) state) (c .solid) ≡ true
+  still n state h k e =
+      other-fits (c .tide) state (c .solid) known (omega arith)
+      (rw (ne-eqb state 2 (λ q. omega arith)) (zero-vector (c .tide) (c .solid) (omega (arith, e)) (p .tide)))
 
   after-mean-on : NoneHolds (own c (next c meanOn) meanOn) → Passed (next c meanOn)
   unfolding next own
@@ -128,7 +135,7 @@ module _ (c : Card) (p : Passed c) where
       record {
         site = p .site;
         frame = p .frame;
-        tide = still 0 1 (omega arith) (omega arith) (byte-is (c .tide) 0 (h 0 (lit< tt)));
+        tide = still 0 1 (omega arith) (omega arith) (byte-is (stateOf (c .tide)) 0 (h 0 (lit< tt)));
         epoch = p .epoch;
         mark = p .mark;
         velocity = p .velocity;
@@ -142,7 +149,7 @@ module _ (c : Card) (p : Passed c) where
       record {
         site = p .site;
         frame = p .frame;
-        tide = still 1 0 (omega arith) (omega arith) (byte-is (c .tide) 1 (h 0 (lit< tt)));
+        tide = still 1 0 (omega arith) (omega arith) (byte-is (stateOf (c .tide)) 1 (h 0 (lit< tt)));
         epoch = p .epoch;
         mark = p .mark;
         velocity = p .velocity;
@@ -151,13 +158,13 @@ module _ (c : Card) (p : Passed c) where
       }
 
   after-solid-on : (a b : Body) → NoneHolds (own c (next c (solidOn a b)) (solidOn a b)) → Passed (next c (solidOn a b))
-  unfolding next own tideFits
+  unfolding next own
   after-solid-on a b h =
       let r = both (inReach moon (moonOf a b)) (inReach sun (sunOf a b)) (not-false (inReach moon (moonOf a b) && inReach sun (sunOf a b)) (h 3 (lit< tt))) in
       record {
         site = p .site;
         frame = p .frame;
-        tide = refl;
+        tide = other-fits (c .tide) 2 (tide (c .mark) (moonOf a b) (sunOf a b)) known (omega arith) refl;
         epoch = p .epoch;
         mark = p .mark;
         velocity = p .velocity;
@@ -171,7 +178,7 @@ module _ (c : Card) (p : Passed c) where
       record {
         site = p .site;
         frame = p .frame;
-        tide = zero-fits 0 nowhere (omega arith) nowhere-zero;
+        tide = other-fits (c .tide) 0 nowhere known (omega arith) nowhere-zero;
         epoch = p .epoch;
         mark = p .mark;
         velocity = p .velocity;

@@ -1,43 +1,37 @@
 -- What each call answers, case by case: the laws behind the private steps and the six calls.
 use mathlib.Core.Path.{_≡_, refl, sym, ap, _∙_, subst, subst⁻¹}
-use mathlib.Core.Bool.{true, false, not, _&&_}
-use mathlib.Core.List.{[], _∷_, _++_}
-use Prim.Native.Nat.{ℕ, _+_, _≤_, _<_}
+use mathlib.Core.Bool.{Bool, true, false, not, _&&_, cond}
+use mathlib.Core.List.{_++_}
+use Prim.Native.Nat.{ℕ, zero, suc, _+_, _≤_, _<_}
 use native.Mathlib.Omega.{arith}
-use borrow.Author.Tests.{ltb-true, lt-leb, eq-eqb, ne-eqb, lt-ltb, le-ltb, not-false}
-use lib.Dec.{lit<}
+use borrow.Author.Tests.{lt-leb, eq-eqb, ne-eqb, not-false}
+use lib.Dec.{lit<, lit≤, eqb}
 use lib.IntN.{ℤ, natAbs, _+ℤ_, _-ℤ_, _*ℤ_}
-use mir.Syntax.{w64}
-use mir.Val.{toZ, ofZ}
 use Rattle.algebra.proofs.BoolLaws.{both}
 use Rattle.algebra.proofs.Difference.{split, ℤ⊖}
-use Rattle.algebra.proofs.Machine.{Va, plain, at, v+, v-, v*}
+use Rattle.algebra.proofs.Machine.{Va, plain, at, v+, v-, v*, rd}
+use Rattle.refusal.specs.Refusal.{first, choose}
+use Rattle.refusal.proofs.RefusalLaws.{positive, accepted, stays, onward}
 use Rattle.mark.specs.declared.Vec3.{Vec3}
-use Rattle.mark.specs.declared.Body.{Body}
-use Rattle.mark.specs.declared.Shift.{Shift}
-use Rattle.mark.specs.declared.Terms.{Terms}
-use Rattle.mark.specs.Mark.{nowhere, marked}
-use Rattle.mark.specs.Permanent.{permanent, permanentAnswer}
-use Rattle.mark.specs.Frame.{knownFrame, frameA, frameB, termsAnswer}
-use Rattle.mark.specs.Bodies.{moon, sun, finite, inReach, paired, moonOf, sunOf}
-use Rattle.mark.specs.Tide.{plus, tide, tideNumber, tideAnswer}
-use Rattle.mark.specs.Refusal.{Table, first}
+use Rattle.mark.specs.Mark.{nowhere, marked, plus, minus, scaled}
 use Rattle.mark.specs.Ranges.{Within}
-use Rattle.mark.proofs.RefusalLaws.{positive, accepted, stays, onward}
+use Rattle.frames.specs.Frame.{knownFrame, frameShift, frameGain}
+use Rattle.tides.specs.declared.Body.{Body}
+use Rattle.tides.specs.declared.Shift.{Shift}
+use Rattle.tides.specs.Permanent.{permanent}
+use Rattle.tides.specs.Bodies.{moon, sun, inReach, moonOf, sunOf}
+use Rattle.tides.specs.Tide.{tide, tideNumber, tideAnswer, pairChecks}
+use Rattle.tides.proofs.TideLaws.{tide-within}
 use Rattle.card.specs.declared.Card.{Card}
 use Rattle.card.specs.declared.Answer.{Answer}
-use Rattle.card.specs.Checks.{minus, scaled, epochFits, velocityFits, positionFits, checks, cardNumber, Valid}
-use Rattle.card.specs.Calls.{Call, move, frame, meanOn, meanOff, solidOn, solidOff, frameAt, moved, reframed, next, near-mark, own, callNumber, settle, step}
-use Rattle.card.specs.Steps.{after, placedAt}
-use Rattle.card.proofs.CheckLaws.{tide-within, positive-checks, number-valid}
+use Rattle.card.specs.Checks.{tideFits, epochFits, velocityFits, positionFits, checks, cardNumber, Valid}
+use Rattle.card.specs.Calls.{Call, move, frame, meanOn, meanOff, solidOn, solidOff, with-position, moved, reframed, next, near-mark, own, callNumber, settle, step}
+use Rattle.card.specs.Steps.{after, retided}
+use Rattle.card.specs.State.{stateOf, withState}
+use Rattle.card.proofs.CheckLaws.{positive-checks, number-valid}
 
 abbrev pub answer : ℕ → Card → Answer
 answer n c = record { number = n; card = c }
-
--- ---- two machine numbers, read back
-
-abbrev pub rd : ℤ → ℤ
-rd z = toZ w64 (ofZ w64 z)
 
 pub sum : (a b : ℤ) → natAbs a ≤ 4000000000000000000 → natAbs b ≤ 4000000000000000000 → Va (rd a +ℤ rd b) (a +ℤ b) 8000000000000000000
 sum a b h k = v+ (at (plain a h) (lit< tt)) (at (plain b k) (lit< tt))
@@ -51,38 +45,53 @@ product a b h k = v* (at (plain a h) (lit< tt)) (at (plain b k) (lit< tt))
 some-of : (n : ℕ) → (n ≡ 0 → ⊥) → 0 < n
 some-of n h = omega arith
 
--- ---- a new position
+-- ---- the step of a tide call: 12, what it asks besides, 8
 
-pub placed-far : (c : Card) (byte : ℕ) (p v : Vec3) → positionFits (c .mark) p ≡ false → answer 8 c ≡ placedAt c byte p v
-unfolding placedAt settle first
-placed-far c byte p v e = rw e
+module _ (c : Card) (from to : ℕ) (p v : Vec3) where
+  pub retided-state : (number : ℕ) → (stateOf (c .tide) ≡ from → ⊥) → answer 12 c ≡ retided c from to number p v
+  unfolding retided settle first
+  retided-state number h = rw (ne-eqb (stateOf (c .tide)) from h)
 
-pub placed-near : (c : Card) (byte : ℕ) (p v : Vec3) (t : ℤ) → positionFits (c .mark) p ≡ true → t ≡ c .epoch
-    → answer 0 (record { site = c .site; frame = c .frame; tide = byte; epoch = t; mark = c .mark; velocity = c .velocity; position = p; solid = v }) ≡ placedAt c byte p v
-unfolding placedAt settle first
-placed-near c byte p v t e h = rw (e, h)
+  retided-kept : (number : ℕ) → (number ≡ 0 → ⊥)
+      → retided c from to number p v ≡ settle (choose (not (eqb (stateOf (c .tide)) from)) 12 number) c (with-position c (withState (c .tide) to) p v)
+  unfolding retided first
+  retided-kept number n = rw (ne-eqb number 0 n)
+
+  module _ (h : stateOf (c .tide) ≡ from) where
+    pub retided-besides : (number : ℕ) → (number ≡ 0 → ⊥) → answer number c ≡ retided c from to number p v
+    unfolding retided settle first
+    retided-besides number n = rw (eq-eqb (stateOf (c .tide)) from h, ne-eqb number 0 n, ne-eqb number 0 n)
+
+    pub retided-far : (number : ℕ) → number ≡ 0 → positionFits (c .mark) p ≡ false → answer 8 c ≡ retided c from to number p v
+    unfolding retided settle first
+    retided-far number n e = rw (eq-eqb (stateOf (c .tide)) from h, n, e)
+
+    pub retided-near : (number byte : ℕ) (t : ℤ) → number ≡ 0 → positionFits (c .mark) p ≡ true → byte ≡ withState (c .tide) to → t ≡ c .epoch
+        → answer 0 (record { site = c .site; frame = c .frame; tide = byte; epoch = t; mark = c .mark; velocity = c .velocity; position = p; solid = v }) ≡ retided c from to number p v
+    unfolding retided settle first
+    retided-near number byte t n e b q = rw (eq-eqb (stateOf (c .tide)) from h, n, e, b, q)
 
 -- ---- move: 13, 5, 8
 
 module _ (c : Card) (d : ℤ) where
-  pub moved-tide : c .tide ≡ 2 → answer 13 c ≡ after c (move d)
+  pub moved-tide : stateOf (c .tide) ≡ 2 → answer 13 c ≡ after c (move d)
   unfolding after own next settle first
-  moved-tide h = rw (eq-eqb (c .tide) 2 h)
+  moved-tide h = rw (eq-eqb (stateOf (c .tide)) 2 h)
 
-  module _ (h : c .tide ≡ 2 → ⊥) where
+  module _ (h : stateOf (c .tide) ≡ 2 → ⊥) where
     pub moved-epoch : epochFits (c .epoch +ℤ d) ≡ false → answer 5 c ≡ after c (move d)
     unfolding after own next moved settle first
-    moved-epoch e = rw (ne-eqb (c .tide) 2 h, e)
+    moved-epoch e = rw (ne-eqb (stateOf (c .tide)) 2 h, e)
 
     pub moved-far : epochFits (c .epoch +ℤ d) ≡ true → positionFits (c .mark) (plus (c .position) (scaled d (c .velocity))) ≡ false → answer 8 c ≡ after c (move d)
     unfolding after own next moved settle first
-    moved-far e q = rw (ne-eqb (c .tide) 2 h, e, q)
+    moved-far e q = rw (ne-eqb (stateOf (c .tide)) 2 h, e, q)
 
     pub moved-near : (t : ℤ) (p : Vec3) → epochFits (c .epoch +ℤ d) ≡ true → positionFits (c .mark) (plus (c .position) (scaled d (c .velocity))) ≡ true
         → t ≡ c .epoch +ℤ d → p ≡ plus (c .position) (scaled d (c .velocity))
         → answer 0 (record { site = c .site; frame = c .frame; tide = c .tide; epoch = t; mark = c .mark; velocity = c .velocity; position = p; solid = c .solid }) ≡ after c (move d)
     unfolding after own next moved settle first
-    moved-near t p e q s w = rw (ne-eqb (c .tide) 2 h, e, q, s, w)
+    moved-near t p e q s w = rw (ne-eqb (stateOf (c .tide)) 2 h, e, q, s, w)
 
 -- a move longer than the whole range of the epoch does not stay in it
 apart : (e d : ℤ) → natAbs d ≤ natAbs (e +ℤ d) + natAbs e
@@ -94,150 +103,137 @@ too-long e d h k = lt-leb (natAbs (e +ℤ d)) 146100 (omega (arith, apart e d))
 
 -- ---- frame: 3, 7, 8
 
--- A and B of a known frame at an accepted mark
-pub terms-a : (g : ℕ) (m : Vec3) (t : Terms) → g ≤ 2 → marked m ≡ true → t ≡ termsAnswer g m → t .a ≡ frameA g m
-unfolding termsAnswer knownFrame
-terms-a g m t h e q = let l : g < 3 = omega arith in rw (q, lt-ltb g 3 l, e)
-
-pub terms-b : (g : ℕ) (m : Vec3) (t : Terms) → g ≤ 2 → marked m ≡ true → t ≡ termsAnswer g m → t .b ≡ frameB g m
-unfolding termsAnswer knownFrame
-terms-b g m t h e q = let l : g < 3 = omega arith in rw (q, lt-ltb g 3 l, e)
-
-pub known-frame : (g : ℕ) → knownFrame g ≡ true → g ≤ 2
-unfolding knownFrame
-known-frame g e = let l : g < 3 = ltb-true g 3 e in omega arith
-
 -- what velocity and position become
 abbrev pub newVelocity : Card → ℕ → Vec3
-newVelocity c g = plus (c .velocity) (minus (frameB g (c .mark)) (frameB (c .frame) (c .mark)))
+newVelocity c g = plus (c .velocity) (frameGain (c .frame) g (c .mark))
 
 abbrev pub newPosition : Card → ℕ → Vec3
-newPosition c g = plus (c .position) (minus (plus (frameA g (c .mark)) (scaled (c .epoch) (frameB g (c .mark)))) (plus (frameA (c .frame) (c .mark)) (scaled (c .epoch) (frameB (c .frame) (c .mark)))))
+newPosition c g = plus (c .position) (frameShift (c .frame) g (c .epoch) (c .mark))
 
 module _ (c : Card) (g : ℕ) where
-  pub reframed-unknown : 2 < g → answer 3 c ≡ after c (frame g)
-  unfolding after own next settle first knownFrame
-  reframed-unknown h = rw (le-ltb g 3 h)
+  pub reframed-unknown : knownFrame g ≡ false → answer 3 c ≡ after c (frame g)
+  unfolding after own next settle first
+  reframed-unknown h = rw h
 
-  module _ (h : g ≤ 2) where
-    three : g < 3
-    three = omega arith
-
+  module _ (h : knownFrame g ≡ true) where
     pub reframed-fast : velocityFits (newVelocity c g) ≡ false → answer 7 c ≡ after c (frame g)
-    unfolding after own next reframed settle first knownFrame
-    reframed-fast e = rw (lt-ltb g 3 three, e)
+    unfolding after own next reframed settle first
+    reframed-fast e = rw (h, e)
 
     pub reframed-far : velocityFits (newVelocity c g) ≡ true → positionFits (c .mark) (newPosition c g) ≡ false → answer 8 c ≡ after c (frame g)
-    unfolding after own next reframed frameAt settle first knownFrame
-    reframed-far e q = rw (lt-ltb g 3 three, e, q)
+    unfolding after own next reframed settle first
+    reframed-far e q = rw (h, e, q)
 
     pub reframed-near : (v p : Vec3) → velocityFits (newVelocity c g) ≡ true → positionFits (c .mark) (newPosition c g) ≡ true → v ≡ newVelocity c g → p ≡ newPosition c g
         → answer 0 (record { site = c .site; frame = g; tide = c .tide; epoch = c .epoch; mark = c .mark; velocity = v; position = p; solid = c .solid }) ≡ after c (frame g)
-    unfolding after own next reframed frameAt settle first knownFrame
-    reframed-near v p e q s w = rw (lt-ltb g 3 three, e, q, s, w)
+    unfolding after own next reframed settle first
+    reframed-near v p e q s w = rw (h, e, q, s, w)
 
--- ---- mean on, mean off: 12, 8
-
-pub shift-is : (m : Vec3) (s : Shift) → marked m ≡ true → s ≡ permanentAnswer m → s .shift ≡ permanent m
-unfolding permanentAnswer
-shift-is m s e q = rw (q, e)
+-- ---- mean on, mean off, solid off: 12, 8
 
 module _ (c : Card) where
-  pub mean-on-tide : (c .tide ≡ 0 → ⊥) → answer 12 c ≡ after c meanOn
-  unfolding after own next settle first
-  mean-on-tide h = rw (ne-eqb (c .tide) 0 h)
+  pub mean-on-is : retided c 0 1 0 (plus (c .position) (permanent (c .mark))) (c .solid) ≡ after c meanOn
+  unfolding after own next retided first
+  mean-on-is = refl
 
-  pub mean-on-placed : c .tide ≡ 0 → placedAt c 1 (plus (c .position) (permanent (c .mark))) (c .solid) ≡ after c meanOn
-  unfolding after own next placedAt first
-  mean-on-placed h = rw (eq-eqb (c .tide) 0 h)
+  pub mean-off-is : retided c 1 0 0 (minus (c .position) (permanent (c .mark))) (c .solid) ≡ after c meanOff
+  unfolding after own next retided first
+  mean-off-is = refl
 
-  pub mean-off-tide : (c .tide ≡ 1 → ⊥) → answer 12 c ≡ after c meanOff
-  unfolding after own next settle first
-  mean-off-tide h = rw (ne-eqb (c .tide) 1 h)
-
-  pub mean-off-placed : c .tide ≡ 1 → placedAt c 0 (minus (c .position) (permanent (c .mark))) (c .solid) ≡ after c meanOff
-  unfolding after own next placedAt first
-  mean-off-placed h = rw (eq-eqb (c .tide) 1 h)
-
-  -- ---- solid off: 12, 8
-
-  pub solid-off-tide : (c .tide ≡ 2 → ⊥) → answer 12 c ≡ after c solidOff
-  unfolding after own next settle first
-  solid-off-tide h = rw (ne-eqb (c .tide) 2 h)
-
-  pub solid-off-placed : c .tide ≡ 2 → placedAt c 0 (minus (c .position) (c .solid)) nowhere ≡ after c solidOff
-  unfolding after own next placedAt first
-  solid-off-placed h = rw (eq-eqb (c .tide) 2 h)
+  pub solid-off-is : retided c 2 0 0 (minus (c .position) (c .solid)) nowhere ≡ after c solidOff
+  unfolding after own next retided first
+  solid-off-is = refl
 
 -- ---- solid on: 12, 17, 10, 11, 8
 
--- the checks of the bodies
-abbrev bodies : Body → Body → Table
-bodies a b =
-    (17, not (paired a b))
-    ∷ (10, not (finite (moonOf a b) && finite (sunOf a b)))
-    ∷ (11, not (inReach moon (moonOf a b) && inReach sun (sunOf a b)))
-    ∷ []
-
-tide-number : (m : Vec3) (a b : Body) → marked m ≡ true → tideNumber m a b ≡ first (bodies a b)
+tide-number : (m : Vec3) (a b : Body) → marked m ≡ true → tideNumber m a b ≡ first (pairChecks a b)
 unfolding tideNumber first
 tide-number m a b e = rw e
 
-module _ (c : Card) (a b : Body) where
-  pub solid-on-tide : (c .tide ≡ 0 → ⊥) → answer 12 c ≡ after c (solidOn a b)
-  unfolding after own next settle first
-  solid-on-tide h = rw (ne-eqb (c .tide) 0 h)
+-- a refused call's card is the one that was handed in
+refused-alike : (n : ℕ) (c m m′ : Card) → (n ≡ 0 → ⊥) → settle n c m ≡ settle n c m′
+unfolding settle
+refused-alike n c m m′ h = rw (ne-eqb n 0 h)
 
-  then-bodies : c .tide ≡ 0 → after c (solidOn a b) ≡ settle (first (bodies a b ++ near-mark (next c (solidOn a b)))) c (next c (solidOn a b))
-  unfolding after own first
-  then-bodies h = rw (eq-eqb (c .tide) 0 h)
+twelve-or : (t : Bool) (n : ℕ) → (n ≡ 0 → ⊥) → choose t 12 n ≡ 0 → ⊥
+twelve-or true n h e = absurd (omega (arith, e))
+twelve-or false n h e = h e
 
-  module _ (s : Shift) (e : marked (c .mark) ≡ true) (h : c .tide ≡ 0) (q : s ≡ tideAnswer (c .mark) a b) where
-    tide-number-is : s .number ≡ first (bodies a b)
+module _ (c : Card) (a b : Body) (s : Shift) (e : marked (c .mark) ≡ true) (q : s ≡ tideAnswer (c .mark) a b) where
+  abbrev there : Card
+  there = next c (solidOn a b)
+
+  bodies-number : s .number ≡ first (pairChecks a b)
+  unfolding tideAnswer
+  bodies-number = rw q (tide-number (c .mark) a b e)
+
+  module _ (n : s .number ≡ 0) where
+    none : first (pairChecks a b) ≡ 0
+    none = sym bodies-number ∙ n
+
+    reach : inReach moon (moonOf a b) && inReach sun (sunOf a b) ≡ true
+    unfolding positive
+    reach = not-false (inReach moon (moonOf a b) && inReach sun (sunOf a b)) (accepted (pairChecks a b) refl .0 none 2 (lit< tt))
+
+    tide-is : s .shift ≡ tide (c .mark) (moonOf a b) (sunOf a b)
     unfolding tideAnswer
-    tide-number-is = rw q (tide-number (c .mark) a b e)
+    tide-is = rw (q, tide-number (c .mark) a b e, none)
 
-    kept : (s .number ≡ 0 → ⊥) → settle (s .number) c (next c (solidOn a b)) ≡ answer (s .number) c
-    unfolding settle
-    kept n = rw (ne-eqb (s .number) 0 n)
+    shift-within : Within 1461000000 (s .shift)
+    shift-within =
+        let r = both (inReach moon (moonOf a b)) (inReach sun (sunOf a b)) reach in
+        subst⁻¹ (λ (v : Vec3). Within 1461000000 v) tide-is (tide-within (c .mark) (moonOf a b) (sunOf a b) e (r .0) (r .1))
 
-    pub solid-on-refused : (s .number ≡ 0 → ⊥) → answer (s .number) c ≡ after c (solidOn a b)
-    solid-on-refused n =
-        let some : 0 < first (bodies a b) = subst (λ (x : ℕ). 0 < x) tide-number-is (some-of (s .number) n) in
-        let same : first (bodies a b ++ near-mark (next c (solidOn a b))) ≡ s .number = stays (bodies a b) (near-mark (next c (solidOn a b))) some ∙ sym tide-number-is in
-        sym (then-bodies h ∙ ap (λ (x : ℕ). settle x c (next c (solidOn a b))) same ∙ kept n)
+  shift-none : (n : ℕ) → s .number ≡ suc n → s .shift ≡ nowhere
+  unfolding tideAnswer
+  shift-none n k = let t : tideNumber (c .mark) a b ≡ suc n = sym (ap (λ (x : Shift). x .number) q) ∙ k in
+      rw (q, t, ne-eqb (suc n) 0 (λ z. absurd (omega (arith, z))))
 
-    module _ (n : s .number ≡ 0) where
-      none : first (bodies a b) ≡ 0
-      none = sym tide-number-is ∙ n
+  small-at : (n : ℕ) → s .number ≡ n → Within 1461000000 (s .shift)
+  small-at zero k = shift-within k
+  small-at (suc n) k = subst⁻¹ (λ (v : Vec3). Within 1461000000 v) (shift-none n k) (record { x = lit≤ tt; y = lit≤ tt; z = lit≤ tt })
 
-      reach : inReach moon (moonOf a b) && inReach sun (sunOf a b) ≡ true
-      unfolding positive
-      reach = not-false (inReach moon (moonOf a b) && inReach sun (sunOf a b)) (accepted (bodies a b) refl .0 none 2 (lit< tt))
+  -- refused or not
+  pub tide-small : Within 1461000000 (s .shift)
+  tide-small = small-at (s .number) refl
 
-      pub tide-is : s .shift ≡ tide (c .mark) (moonOf a b) (sunOf a b)
-      unfolding tideAnswer
-      tide-is = rw (q, tide-number (c .mark) a b e, none)
+  -- the call's card and checks, by its first check and the rest
+  fold : settle (choose (not (eqb (stateOf (c .tide)) 0)) 12 (first (pairChecks a b ++ near-mark there))) c there ≡ after c (solidOn a b)
+  unfolding after own next first
+  fold = refl
 
-      pub tide-small : Within 1461000000 (s .shift)
-      tide-small =
-          let r = both (inReach moon (moonOf a b)) (inReach sun (sunOf a b)) reach in
-          subst⁻¹ (λ (v : Vec3). Within 1461000000 v) tide-is (tide-within (c .mark) (moonOf a b) (sunOf a b) e (r .0) (r .1))
+  rest : (m : ℕ) → first (pairChecks a b ++ near-mark there) ≡ m
+      → settle (choose (not (eqb (stateOf (c .tide)) 0)) 12 m) c there ≡ after c (solidOn a b)
+  rest m k = ap (λ (x : ℕ). settle (choose (not (eqb (stateOf (c .tide)) 0)) 12 x) c there) (sym k) ∙ fold
 
-      named : placedAt c 2 (plus (c .position) (tide (c .mark) (moonOf a b) (sunOf a b))) (tide (c .mark) (moonOf a b) (sunOf a b)) ≡ settle (first (near-mark (next c (solidOn a b)))) c (next c (solidOn a b))
-      unfolding placedAt next
-      named = refl
+  taken : retided c 0 2 0 (plus (c .position) (tide (c .mark) (moonOf a b) (sunOf a b))) (tide (c .mark) (moonOf a b) (sunOf a b))
+      ≡ settle (choose (not (eqb (stateOf (c .tide)) 0)) 12 (first (near-mark there))) c there
+  unfolding retided next first plus
+  taken = refl
 
-      past : first (bodies a b ++ near-mark (next c (solidOn a b))) ≡ first (near-mark (next c (solidOn a b)))
-      unfolding positive
-      past = onward (bodies a b) (near-mark (next c (solidOn a b))) refl none
+  solid-at : (n : ℕ) → s .number ≡ n → retided c 0 2 n (plus (c .position) (s .shift)) (s .shift) ≡ after c (solidOn a b)
+  unfolding positive
+  solid-at zero k =
+      ap (λ (v : Vec3). retided c 0 2 0 (plus (c .position) v) v) (tide-is k) ∙ taken
+      ∙ rest (first (near-mark there)) (onward (pairChecks a b) (near-mark there) refl (none k))
+  solid-at (suc n) k =
+      let some : 0 < first (pairChecks a b) = subst (λ (x : ℕ). 0 < x) bodies-number (omega (arith, k)) in
+      let some-more : suc n ≡ 0 → ⊥ = λ z. omega (arith, z) in
+      retided-kept c 0 2 (plus (c .position) (s .shift)) (s .shift) (suc n) some-more
+      ∙ refused-alike (choose (not (eqb (stateOf (c .tide)) 0)) 12 (suc n)) c _ there (twelve-or (not (eqb (stateOf (c .tide)) 0)) (suc n) some-more)
+      ∙ rest (suc n) (stays (pairChecks a b) (near-mark there) some ∙ sym bodies-number ∙ k)
 
-      pub solid-on-placed : placedAt c 2 (plus (c .position) (s .shift)) (s .shift) ≡ after c (solidOn a b)
-      solid-on-placed =
-          ap (λ (v : Vec3). placedAt c 2 (plus (c .position) v) v) tide-is ∙ named
-          ∙ ap (λ (x : ℕ). settle x c (next c (solidOn a b))) (sym past) ∙ sym (then-bodies h)
+  pub solid-on-is : retided c 0 2 (s .number) (plus (c .position) (s .shift)) (s .shift) ≡ after c (solidOn a b)
+  solid-on-is = solid-at (s .number) refl
 
 -- ---- the six calls: the card's number where it is not 0, else the call's own
+
+-- the zero bytes of an accepted record are zero
+pub zeros-true : (z : Bool) (c : Card) → first (checks z c) ≡ 0 → z ≡ true
+unfolding checks positive
+zeros-true z c e =
+    let none = accepted (checks z c) refl .0 e in
+    both z (tideFits (c .tide) (c .solid)) (not-false (z && tideFits (c .tide) (c .solid)) (none 2 (lit< tt))) .0
 
 module _ (c : Card) (k : Call) (n : ℕ) (q : n ≡ first (checks true c)) where
   pub step-refused : (n ≡ 0 → ⊥) → answer n c ≡ step c k
@@ -258,3 +254,7 @@ number-is c n q = q
 
 pub number-passes : (c : Card) (n : ℕ) → n ≡ first (checks true c) → n ≡ 0 → Valid c
 number-passes c n q h = number-valid c (sym (number-is c n q) ∙ h)
+
+-- an answer by its number
+pub settled : (n : ℕ) (a b : Card) → (n ≡ 0 → ⊥) → answer n b ≡ answer n (cond (eqb n 0) a b)
+settled n a b h = rw (ne-eqb n 0 h)

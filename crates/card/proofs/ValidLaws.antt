@@ -1,36 +1,24 @@
 -- More of a card that passed its checks: the length before them, its nine bytes of site, and byte 10 without solid tide.
-use mathlib.Core.Path.{_≡_, refl, ap}
-use mathlib.Core.Bool.{Bool, true, false, not, _||_}
-use mathlib.Core.List.{List, _∷_}
+use mathlib.Core.Path.{_≡_, ap}
+use mathlib.Core.Bool.{true, false, _||_}
+use mathlib.Core.List.{List}
 use Prim.Native.Nat.{ℕ, _≤_}
 use native.Mathlib.Omega.{arith}
-use borrow.Author.Tests.{leb-true, eq-eqb, eqb-true, eqb-false}
-use lib.Dec.{leb, eqb, lit≤}
+use borrow.Author.Tests.{eqb-true}
+use lib.Dec.{eqb, lit≤}
 use lib.ListN.{length}
 use lib.IntN.{ℤ, pos, negsuc, natAbs}
 use Rattle.algebra.proofs.BoolLaws.{and-left, and-right}
 use Rattle.mark.specs.declared.Vec3.{Vec3}
-use Rattle.mark.specs.Mark.{nowhere, marked}
-use Rattle.mark.specs.Refusal.{Table, choose, first}
+use Rattle.mark.specs.Mark.{nowhere, marked, sized}
 use Rattle.mark.specs.Ranges.{Within}
 use Rattle.mark.proofs.LengthLaws.{vec≡, widen}
 use Rattle.mark.proofs.MarkLaws.{accepted-within}
-use Rattle.card.specs.Checks.{sized, shapeFrom, siteShape, isZero, tideFits, positionFits}
-use Rattle.card.proofs.CheckLaws.{sized-is, position-small}
-
--- ---- a table that starts with the length
-
-pub past-length : (n l : ℕ) (t : Table) → n ≡ l → first ((1, not (eqb n l)) ∷ t) ≡ first t
-unfolding first
-past-length n l t e = rw (eq-eqb n l e)
-
-pub of-length : (n l : ℕ) (t : Table) → first ((1, not (eqb n l)) ∷ t) ≡ 0 → (n ≡ l) × (first t ≡ 0)
-unfolding first
-of-length n l t e = let r = go (eqb n l) e in (eqb-true n l (r .0), r .1)
-  where
-    go : (b : Bool) → choose (not b) 1 (first t) ≡ 0 → (b ≡ true) × (first t ≡ 0)
-    go true e = (refl, e)
-    go false e = absurd (omega arith)
+use Rattle.mark.proofs.SizeLaws.{sized-is}
+use Rattle.card.specs.Checks.{shapeFrom, siteShape, isZero, tideFits, positionFits}
+use Rattle.card.specs.State.{stateOf, stateFits}
+use Rattle.card.proofs.CheckLaws.{position-small}
+use Rattle.card.proofs.StateLaws.{fits-low}
 
 -- ---- sizes
 
@@ -44,19 +32,17 @@ position-size m p e f = widen (position-small m p (accepted-within m e) f) (lit�
 -- ---- byte 10
 
 -- without solid tide it is 0 or 1
-pub tide-low : (byte : ℕ) (v : Vec3) → tideFits byte v ≡ true → eqb byte 2 ≡ false → byte ≤ 1
+pub tide-low : (byte : ℕ) (v : Vec3) → tideFits byte v ≡ true → eqb (stateOf byte) 2 ≡ false → byte ≤ 1
 unfolding tideFits
-tide-low byte v e f =
-    let h : byte ≤ 2 = leb-true byte 2 (and-left (leb byte 2) (eqb byte 2 || isZero v) e) in
-    omega (arith, eqb-false byte 2 f)
+tide-low byte v e f = fits-low byte (and-left (stateFits byte) (eqb (stateOf byte) 2 || isZero v) e) f
 
 size-zero : (z : ℤ) → natAbs z ≤ 0 → z ≡ pos 0
 size-zero (pos n) h = ap pos (omega arith)
 size-zero (negsuc n) h = absurd (omega arith)
 
 -- and no vector is stored
-pub solid-none : (byte : ℕ) (v : Vec3) → tideFits byte v ≡ true → eqb byte 2 ≡ false → v ≡ nowhere
+pub solid-none : (byte : ℕ) (v : Vec3) → tideFits byte v ≡ true → eqb (stateOf byte) 2 ≡ false → v ≡ nowhere
 unfolding tideFits isZero
 solid-none byte v e f =
-    let w : Within 0 v = sized-is 0 v (rw f at (and-right (leb byte 2) (eqb byte 2 || sized 0 v) e)) in
+    let w : Within 0 v = sized-is 0 v (rw f at (and-right (stateFits byte) (eqb (stateOf byte) 2 || sized 0 v) e)) in
     vec≡ (size-zero (v .x) (w .x)) (size-zero (v .y) (w .y)) (size-zero (v .z) (w .z))

@@ -1,21 +1,23 @@
 -- The calls on a card, each in one form: its own checks, the card that comes next, and one way to settle the two.
-use Prim.Native.Nat.{ℕ}
-use mathlib.Core.List.{[], _∷_, _++_}
 use mathlib.Core.Bool.{true, not, cond}
+use mathlib.Core.List.{[], _∷_, _++_}
+use Prim.Native.Nat.{ℕ}
 use lib.Dec.{eqb}
 use lib.IntN.{ℤ, _+ℤ_}
+use Rattle.refusal.specs.Refusal.{Table, first}
 use Rattle.mark.specs.declared.Vec3.{Vec3}
-use Rattle.mark.specs.declared.Body.{Body}
-use Rattle.mark.specs.Mark.{nowhere}
-use Rattle.mark.specs.Permanent.{permanent}
-use Rattle.mark.specs.Frame.{knownFrame, frameB}
-unfoldable pub use Rattle.mark.specs.Frame.{frameAt}
-use Rattle.mark.specs.Bodies.{moonOf, sunOf}
-use Rattle.mark.specs.Tide.{plus, tide, pairChecks}
-use Rattle.mark.specs.Refusal.{Table, first}
+use Rattle.mark.specs.Mark.{nowhere, plus, minus, scaled}
+use Rattle.frames.specs.Frame.{knownFrame, frameShift, frameGain}
+use Rattle.tides.specs.declared.Body.{Body}
+use Rattle.tides.specs.Permanent.{permanent}
+use Rattle.tides.specs.Bodies.{moonOf, sunOf}
+use Rattle.tides.specs.Tide.{tide, pairChecks}
 use Rattle.card.specs.declared.Card.{Card}
 use Rattle.card.specs.declared.Answer.{Answer}
-use Rattle.card.specs.Checks.{minus, scaled, epochFits, velocityFits, positionFits, checks}
+use Rattle.card.specs.State.{stateOf, withState}
+use Rattle.card.specs.Checks.{epochFits, velocityFits, positionFits, checks}
+use Rattle.card.specs.declared.Call as declared
+use Rattle.card.specs.declared.Call.the-variants as Is
 
 -- a call as data
 pub data Call : Type 0 where
@@ -53,33 +55,37 @@ reframed g c =
       tide = c .tide;
       epoch = c .epoch;
       mark = c .mark;
-      velocity = plus (c .velocity) (minus (frameB g (c .mark)) (frameB (c .frame) (c .mark)));
-      position = plus (c .position) (minus (frameAt g (c .mark) (c .epoch)) (frameAt (c .frame) (c .mark) (c .epoch)));
+      velocity = plus (c .velocity) (frameGain (c .frame) g (c .mark));
+      position = plus (c .position) (frameShift (c .frame) g (c .epoch) (c .mark));
       solid = c .solid;
     }
 
 unfoldable pub next : Card → Call → Card
 next c (move d) = moved d c
 next c (frame g) = reframed g c
-next c meanOn = with-position c 1 (plus (c .position) (permanent (c .mark))) (c .solid)
-next c meanOff = with-position c 0 (minus (c .position) (permanent (c .mark))) (c .solid)
+next c meanOn = with-position c (withState (c .tide) 1) (plus (c .position) (permanent (c .mark))) (c .solid)
+next c meanOff = with-position c (withState (c .tide) 0) (minus (c .position) (permanent (c .mark))) (c .solid)
 next c (solidOn a b) =
     let v = tide (c .mark) (moonOf a b) (sunOf a b) in
-    with-position c 2 (plus (c .position) v) v
-next c solidOff = with-position c 0 (minus (c .position) (c .solid)) nowhere
+    with-position c (withState (c .tide) 2) (plus (c .position) v) v
+next c solidOff = with-position c (withState (c .tide) 0) (minus (c .position) (c .solid)) nowhere
 
 -- the last check of every call: the position stays near the mark
 abbrev pub near-mark : Card → Table
 near-mark n = (8, not (positionFits (n .mark) (n .position))) ∷ []
 
+-- a tide call's own: byte 10 is in the state that it starts from, what it asks besides, and the last check
+abbrev pub tide-checks : ℕ → Table → Card → Card → Table
+tide-checks from besides c n = (12, not (eqb (stateOf (c .tide)) from)) ∷ besides ++ near-mark n
+
 -- a call's own checks, on the card c and the card n that comes next
 unfoldable pub own : Card → Card → Call → Table
-own c n (move d) = (13, eqb (c .tide) 2) ∷ (5, not (epochFits (n .epoch))) ∷ near-mark n
+own c n (move d) = (13, eqb (stateOf (c .tide)) 2) ∷ (5, not (epochFits (n .epoch))) ∷ near-mark n
 own c n (frame g) = (3, not (knownFrame g)) ∷ (7, not (velocityFits (n .velocity))) ∷ near-mark n
-own c n meanOn = (12, not (eqb (c .tide) 0)) ∷ near-mark n
-own c n meanOff = (12, not (eqb (c .tide) 1)) ∷ near-mark n
-own c n (solidOn a b) = (12, not (eqb (c .tide) 0)) ∷ pairChecks a b ++ near-mark n
-own c n solidOff = (12, not (eqb (c .tide) 2)) ∷ near-mark n
+own c n meanOn = tide-checks 0 [] c n
+own c n meanOff = tide-checks 1 [] c n
+own c n (solidOn a b) = tide-checks 0 (pairChecks a b) c n
+own c n solidOff = tide-checks 2 [] c n
 
 -- the card's checks, then the call's own
 unfoldable pub callNumber : Card → Call → ℕ
@@ -91,3 +97,12 @@ settle n c after = record { number = n; card = cond (eqb n 0) after c }
 
 unfoldable pub step : Card → Call → Answer
 step c k = settle (callNumber c k) c (next c k)
+
+-- the paper's call of each case
+abbrev pub callOf : declared.Call → Call
+callOf (Is.Move d) = move d
+callOf (Is.Frame g) = frame g
+callOf Is.MeanOn = meanOn
+callOf Is.MeanOff = meanOff
+callOf (Is.SolidOn a b) = solidOn a b
+callOf Is.SolidOff = solidOff

@@ -1,21 +1,19 @@
 -- A card's checks 2 to 9, in the paper's order. A card is accepted where none is met.
-use Prim.Native.Nat.{ℕ, zero, suc, _+_, _*_}
-use mathlib.Core.List.{List, [], _∷_}
 use mathlib.Core.Bool.{Bool, true, not, cond, _&&_, _||_}
+use mathlib.Core.List.{List, [], _∷_, _++_}
+use Prim.Native.Nat.{ℕ, zero, suc, _+_, _*_}
 use lib.Dec.{T, leb, eqb}
 use lib.ListN.{length, getD}
 use lib.IntN.{ℤ, pos, natAbs}
+use Rattle.refusal.specs.Refusal.{Table, first}
 use Rattle.mark.specs.declared.Vec3.{Vec3}
-use Rattle.mark.specs.Mark.{between, marked}
+use Rattle.mark.specs.Mark.{nowhere, between, marked, sized}
 pub use Rattle.mark.specs.Mark.{metre}
 unfoldable pub use Rattle.mark.specs.Mark.{minus, scaled}
-use Rattle.mark.specs.Frame.{knownFrame}
-use Rattle.mark.specs.Refusal.{Table, first}
+use Rattle.frames.specs.Frame.{knownFrame}
 use Rattle.card.specs.declared.Card.{Card}
-
--- each of three numbers is at most n in size
-unfoldable pub sized : ℕ → Vec3 → Bool
-sized n v = leb (natAbs (v .x)) n && leb (natAbs (v .y)) n && leb (natAbs (v .z)) n
+use Rattle.card.specs.declared.Offset.{Offset}
+use Rattle.card.specs.State.{stateOf, stateFits}
 
 -- a digit, `0` to `9`
 unfoldable pub digit : ℕ → Bool
@@ -38,7 +36,7 @@ isZero v = sized 0 v
 
 -- byte 10 is 0, 1 or 2, and the tide vector is zero unless it is 2
 unfoldable pub tideFits : ℕ → Vec3 → Bool
-tideFits byte v = leb byte 2 && (eqb byte 2 || isZero v)
+tideFits byte v = stateFits byte && (eqb (stateOf byte) 2 || isZero v)
 
 -- quarter-days from 2000.0
 unfoldable pub epochFits : ℤ → Bool
@@ -58,18 +56,25 @@ positionFits m p = sized (1000 * metre) (fromMark m p)
 unfoldable pub vectorFits : Vec3 → Bool
 vectorFits v = sized metre v
 
--- the table of the paper from 2 on; `zeros` says that the record's zero bytes are zero
+-- ---- the table of the paper from 2 on
+
+-- 2 to 6, which a card and a field record share; `fits` is the answer for 4
+abbrev pub headChecks : List ℕ → ℕ → Bool → ℤ → Vec3 → Table
+headChecks site frame fits epoch mark =
+    (2, not (siteShape site)) ∷ (3, not (knownFrame frame)) ∷ (4, not fits) ∷ (5, not (epochFits epoch)) ∷ (6, not (marked mark)) ∷ []
+
+-- 7 and 8
+abbrev pub bodyChecks : Card → Table
+bodyChecks c = (7, not (velocityFits (c .velocity))) ∷ (8, not (positionFits (c .mark) (c .position))) ∷ []
+
+-- from 9 on: what is stored
+abbrev pub storedChecks : Card → Table
+storedChecks c = (9, not (vectorFits (c .solid))) ∷ []
+
+-- all of them, in order; `zeros` says that the record's zero bytes are zero
 unfoldable pub checks : Bool → Card → Table
 checks zeros c =
-    (2, not (siteShape (c .site)))
-    ∷ (3, not (knownFrame (c .frame)))
-    ∷ (4, not (zeros && tideFits (c .tide) (c .solid)))
-    ∷ (5, not (epochFits (c .epoch)))
-    ∷ (6, not (marked (c .mark)))
-    ∷ (7, not (velocityFits (c .velocity)))
-    ∷ (8, not (positionFits (c .mark) (c .position)))
-    ∷ (9, not (vectorFits (c .solid)))
-    ∷ []
+    headChecks (c .site) (c .frame) (zeros && tideFits (c .tide) (c .solid)) (c .epoch) (c .mark) ++ (bodyChecks c ++ storedChecks c)
 
 -- a card value has no zero byte
 unfoldable pub cardNumber : Card → ℕ
@@ -78,3 +83,7 @@ cardNumber c = first (checks true c)
 -- a valid card
 unfoldable pub Valid : Card → Type 0
 Valid c = T (eqb (cardNumber c) 0)
+
+-- where a card stands from its mark, grains; a refusal comes with zeros
+unfoldable pub offsetAnswer : Card → Offset
+offsetAnswer c = record { number = cardNumber c; grains = cond (eqb (cardNumber c) 0) (fromMark (c .mark) (c .position)) nowhere }

@@ -1,10 +1,7 @@
--- The card: layout, the nine checks, reading and writing, the field edition, metres out, and the calls.
+-- The card: its checks, the card of all zeros, the calls.
 pub mod Checks
-pub mod Layout
-pub mod Codec
-pub mod Field
+pub mod State
+pub mod Zero
 pub mod Calls
-pub mod MetresOut
 pub mod Steps
-pub mod Bytes
 pub mod Sample

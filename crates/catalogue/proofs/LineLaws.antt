@@ -12,12 +12,12 @@ use lib.IntN.{ℤ, pos, negsuc}
 use mir.Facts.{toZ-ofZ}
 use mir.Syntax.{w64}
 use mir.Val.{SFits, toZ, ofZ}
-use Rattle.card.specs.declared.Card.{Card}
-use Rattle.card.specs.declared.Answer.{Answer}
-use Rattle.card.specs.Codec.{readNumber, readCard, decode}
 use Rattle.octets.specs.Octets.{splice}
 use Rattle.octets.proofs.OctetLaws.{splice-append, part-splice}
-use Rattle.catalogue.specs.Line.{digits, placesIn, places, natural, integer, numbers, refusedWord, refusedLine, cardLine, lineOf}
+use Rattle.card.specs.declared.Card.{Card}
+use Rattle.card.specs.declared.Answer.{Answer}
+use Rattle.codec.specs.Codec.{readNumber, readCard, decode}
+use Rattle.catalogue.specs.Line.{lineMost, digits, placesIn, places, natural, integer, numbers, refusedWord, refusedLine, cardLine, lineOf}
 
 pub length-digits : (k n : ℕ) → length (digits k n) ≡ k
 unfolding digits
@@ -161,17 +161,17 @@ refused-most : (n : ℕ) → length (refusedLine n) ≤ 30
 unfolding refusedLine refusedWord
 refused-most n = omega (arith, length-append refusedWord (numbers (pos n ∷ [])), numbers-most (pos n ∷ []))
 
-card-most : (c : Card) → length (c .site) ≤ 9 → length (cardLine c) ≤ 120
+card-most : (c : Card) → length (c .site) ≤ 9 → length (cardLine c) ≤ lineMost
 unfolding cardLine
 card-most c h =
     let zs = pos (c .frame) ∷ c .epoch ∷ c .position .x ∷ c .position .y ∷ c .position .z ∷ [] in
     omega (arith, length-append (c .site) (numbers zs), numbers-most zs)
 
-pub line-most : (s : List ℕ) → length (lineOf s) ≤ 120
+pub line-most : (s : List ℕ) → length (lineOf s) ≤ lineMost
 unfolding lineOf decode
 line-most s = by (eqb (readNumber s) 0)
   where
-    by : (b : Bool) → length (cond b (cardLine (decode s)) (refusedLine (readNumber s))) ≤ 120
+    by : (b : Bool) → length (cond b (cardLine (decode s)) (refusedLine (readNumber s))) ≤ lineMost
     by true = card-most (decode s) (rw (length-take 9 s) (omega arith))
     by false = omega (arith, refused-most (readNumber s))
 

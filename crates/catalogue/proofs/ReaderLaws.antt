@@ -5,12 +5,13 @@ use mathlib.Core.List.{List, [], _∷_, _++_, map}
 use Prim.Native.Nat.{ℕ, zero, suc, _+_, _-_, _*_, _≤_, _<_}
 use native.Mathlib.Omega.{arith}
 use borrow.Author.Tests.{le-leb, lt-leb, lt-ltb, le-ltb, ltb-true, ltb-false}
+use denote.Ref.{RefT}
 use lib.Dec.{ltb}
 use lib.ListN.{length, take, drop, replicate, length-take, length-drop}
 use Rattle.card.specs.declared.Answer.{Answer}
-use Rattle.card.specs.Codec.{zeroCard, readCard}
-use Rattle.card.proofs.AnswerLaws.{read-short}
-use denote.Ref.{RefT}
+use Rattle.card.specs.Zero.{zeroCard}
+use Rattle.codec.specs.Codec.{readCard, cardLength}
+use Rattle.codec.proofs.AnswerLaws.{read-short}
 use Rattle.catalogue.specs.declared.Taken.{Taken}
 use Rattle.catalogue.specs.declared.Reader.{Reader}
 use Rattle.catalogue.specs.Reader.{ended, stepped, takenAt, Seen, seen, answers, partsFrom, partCount, parts, readSeen, doneSeen, Reads, told}
@@ -21,15 +22,15 @@ pub taken-end : (s : List ℕ) (at : ℕ) → length s ≤ at → takenAt s at �
 unfolding takenAt
 taken-end s at h = rw (le-leb (length s) at h)
 
-pub taken-short : (s : List ℕ) (at : ℕ) → at < length s → length s - at < 88
+pub taken-short : (s : List ℕ) (at : ℕ) → at < length s → length s - at < cardLength
     → takenAt s at ≡ stepped (record { number = 1; card = zeroCard }) (length s)
 unfolding takenAt
-taken-short s at h k = rw (lt-leb (length s) at h, lt-ltb (length s - at) 88 k)
+taken-short s at h k = rw (lt-leb (length s) at h, lt-ltb (length s - at) cardLength k)
 
-pub taken-whole : (s : List ℕ) (at : ℕ) → at < length s → 88 ≤ length s - at
-    → takenAt s at ≡ stepped (readCard (take 88 (drop at s))) (at + 88)
+pub taken-whole : (s : List ℕ) (at : ℕ) → at < length s → cardLength ≤ length s - at
+    → takenAt s at ≡ stepped (readCard (take cardLength (drop at s))) (at + cardLength)
 unfolding takenAt
-taken-whole s at h k = rw (lt-leb (length s) at h, le-ltb (length s - at) 88 k)
+taken-whole s at h k = rw (lt-leb (length s) at h, le-ltb (length s - at) cardLength k)
 
 -- ---- the same as a caller sees them
 
@@ -41,18 +42,18 @@ at-end : (s : List ℕ) (at n : ℕ) → length s ≤ at → answers s at (suc n
 unfolding ended seen doneSeen
 at-end s at n h = step-one s at n (ended at) (taken-end s at h)
 
-at-short : (s : List ℕ) (at n : ℕ) → at < length s → length s - at < 88
-    → answers s at (suc n) ≡ readSeen (take 88 (drop at s)) ∷ answers s (length s) n
+at-short : (s : List ℕ) (at n : ℕ) → at < length s → length s - at < cardLength
+    → answers s at (suc n) ≡ readSeen (take cardLength (drop at s)) ∷ answers s (length s) n
 unfolding stepped seen readSeen
 at-short s at n h k =
-    let e : length (take 88 (drop at s)) ≡ 88 → ⊥ = simp (length-take, length-drop) (omega arith) in
+    let e : length (take cardLength (drop at s)) ≡ cardLength → ⊥ = simp (length-take, length-drop) (omega arith) in
     step-one s at n (stepped (record { number = 1; card = zeroCard }) (length s)) (taken-short s at h k)
-    ∙ ap (λ (a : Answer). (false, a) ∷ answers s (length s) n) (read-short (take 88 (drop at s)) e)
+    ∙ ap (λ (a : Answer). (false, a) ∷ answers s (length s) n) (read-short (take cardLength (drop at s)) e)
 
-at-whole : (s : List ℕ) (at n : ℕ) → at < length s → 88 ≤ length s - at
-    → answers s at (suc n) ≡ readSeen (take 88 (drop at s)) ∷ answers s (at + 88) n
+at-whole : (s : List ℕ) (at n : ℕ) → at < length s → cardLength ≤ length s - at
+    → answers s at (suc n) ≡ readSeen (take cardLength (drop at s)) ∷ answers s (at + cardLength) n
 unfolding stepped seen readSeen
-at-whole s at n h k = step-one s at n (stepped (readCard (take 88 (drop at s))) (at + 88)) (taken-whole s at h k)
+at-whole s at n h k = step-one s at n (stepped (readCard (take cardLength (drop at s))) (at + cardLength)) (taken-whole s at h k)
 
 -- ---- all steps
 
@@ -62,18 +63,18 @@ done-after s at zero h = refl
 done-after s at (suc k) h = at-end s at k h ∙ ap (λ (l : List Seen). doneSeen ∷ l) (done-after s at k h)
 
 -- the last part, short or whole
-from-last : (s : List ℕ) (at k : ℕ) → at < length s → length s ≤ at + 88
-    → answers s at (suc k) ≡ readSeen (take 88 (drop at s)) ∷ replicate k doneSeen
-from-last s at k h l = by (ltb (length s - at) 88) refl
+from-last : (s : List ℕ) (at k : ℕ) → at < length s → length s ≤ at + cardLength
+    → answers s at (suc k) ≡ readSeen (take cardLength (drop at s)) ∷ replicate k doneSeen
+from-last s at k h l = by (ltb (length s - at) cardLength) refl
   where
-    by : (b : Bool) → ltb (length s - at) 88 ≡ b → answers s at (suc k) ≡ readSeen (take 88 (drop at s)) ∷ replicate k doneSeen
-    by true e = at-short s at k h (ltb-true (length s - at) 88 e) ∙ ap (λ (r : List Seen). readSeen (take 88 (drop at s)) ∷ r) (done-after s (length s) k (omega arith))
+    by : (b : Bool) → ltb (length s - at) cardLength ≡ b → answers s at (suc k) ≡ readSeen (take cardLength (drop at s)) ∷ replicate k doneSeen
+    by true e = at-short s at k h (ltb-true (length s - at) cardLength e) ∙ ap (λ (r : List Seen). readSeen (take cardLength (drop at s)) ∷ r) (done-after s (length s) k (omega arith))
     by false e =
-        let w = ltb-false (length s - at) 88 e in
-        at-whole s at k h w ∙ ap (λ (r : List Seen). readSeen (take 88 (drop at s)) ∷ r) (done-after s (at + 88) k l)
+        let w = ltb-false (length s - at) cardLength e in
+        at-whole s at k h w ∙ ap (λ (r : List Seen). readSeen (take cardLength (drop at s)) ∷ r) (done-after s (at + cardLength) k l)
 
--- n + 1 parts are left: 88 bytes in each but the last
-from-place : (s : List ℕ) (at n k : ℕ) → at + 88 * n < length s → length s ≤ at + 88 * n + 88
+-- n + 1 parts are left: a record in each but the last
+from-place : (s : List ℕ) (at n k : ℕ) → at + cardLength * n < length s → length s ≤ at + cardLength * n + cardLength
     → answers s at (suc n + k) ≡ map readSeen (partsFrom s at (suc n)) ++ replicate k doneSeen
 unfolding partsFrom
 from-place s at zero k h l =
@@ -83,7 +84,7 @@ from-place s at (suc n) k h l =
     let e : suc (suc n) + k ≡ suc (suc n + k) = omega arith in
     rw e
     (at-whole s at (suc n + k) (omega arith) (omega arith)
-    ∙ ap (λ (r : List Seen). readSeen (take 88 (drop at s)) ∷ r) (from-place s (at + 88) n k (omega arith) (omega arith)))
+    ∙ ap (λ (r : List Seen). readSeen (take cardLength (drop at s)) ∷ r) (from-place s (at + cardLength) n k (omega arith) (omega arith)))
 
 -- the answers of a catalogue's steps from its start: its parts read in order, then done for ever
 pub all-answers : (s : List ℕ) (k : ℕ) → answers s 0 (partCount s + k) ≡ map readSeen (parts s) ++ replicate k doneSeen

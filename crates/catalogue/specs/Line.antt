@@ -1,11 +1,11 @@
 -- The listing line of one part: its card's site, frame, epoch and position, or its refusal. Text is ASCII.
-use Prim.Native.Nat.{ℕ, zero, suc, _+_, _/_, _%_}
-use mathlib.Core.List.{List, [], _∷_, _++_}
 use mathlib.Core.Bool.{cond}
+use mathlib.Core.List.{List, [], _∷_, _++_}
+use Prim.Native.Nat.{ℕ, zero, suc, _+_, _/_, _%_}
 use lib.Dec.{eqb, ltb}
 use lib.IntN.{ℤ, pos, negsuc}
 use Rattle.card.specs.declared.Card.{Card}
-use Rattle.card.specs.Codec.{readNumber, decode}
+use Rattle.codec.specs.Codec.{readNumber, decode}
 
 -- the last k decimal digits of n, the most significant first; 48 is `0`
 unfoldable pub digits : ℕ → ℕ → List ℕ
@@ -47,3 +47,7 @@ cardLine c = c .site ++ numbers (pos (c .frame) ∷ c .epoch ∷ c .position .x 
 
 unfoldable pub lineOf : List ℕ → List ℕ
 lineOf s = cond (eqb (readNumber s) 0) (cardLine (decode s)) (refusedLine (readNumber s))
+
+-- the most bytes that a line has
+abbrev pub lineMost : ℕ
+lineMost = 120

@@ -1,13 +1,12 @@
--- Lookup: the first record of a catalogue whose first nine bytes are the key's. Records of 88 bytes, no header.
-use Prim.Native.Nat.{ℕ, zero, suc, _+_, _/_, _%_}
-use mathlib.Core.List.{List, []}
-use mathlib.Core.List.{_∷_}
+-- Lookup: the first record of a catalogue whose first nine bytes are the key's. Records of a card's length, no header.
 use mathlib.Core.Bool.{Bool, true, not, cond, _&&_}
+use mathlib.Core.List.{List, [], _∷_}
+use Prim.Native.Nat.{ℕ, zero, suc, _+_, _/_, _%_}
 use lib.Dec.{eqb, ltb}
 use lib.ListN.{length, getD, take, drop}
-use Rattle.mark.specs.Refusal.{first}
+use Rattle.refusal.specs.Refusal.{first}
 use Rattle.card.specs.Checks.{siteShape}
-use Rattle.card.specs.Codec.{cardLength}
+use Rattle.codec.specs.Codec.{cardLength}
 use Rattle.catalogue.specs.declared.Found.{Found}
 
 -- the k bytes from byte i on of the record at `at` are the key's

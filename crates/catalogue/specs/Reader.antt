@@ -1,28 +1,33 @@
 -- The catalogue reader: one step from a place in the lent bytes, and what all the steps give.
 use mathlib.Core.Path.{_≡_}
-use Prim.Native.Nat.{ℕ, zero, suc, _+_, _-_, _/_}
-use mathlib.Core.List.{List, [], _∷_}
 use mathlib.Core.Bool.{Bool, true, false, cond}
+use mathlib.Core.List.{List, [], _∷_}
+use Prim.Native.Nat.{ℕ, zero, suc, _+_, _-_, _/_}
 use lib.Dec.{leb, ltb}
 use lib.ListN.{length, take, drop}
 use Rattle.card.specs.declared.Answer.{Answer}
-use Rattle.card.specs.Codec.{cardLength, zeroCard, readCard}
+use Rattle.card.specs.Zero.{zeroCard, refusedWith}
+use Rattle.codec.specs.Codec.{cardLength, readCard}
 use Rattle.catalogue.specs.declared.Taken.{Taken}
 use Rattle.catalogue.specs.declared.Reader.{Reader}
 
+-- what was read, whether nothing was left, and the place after it
+abbrev pub takenWith : Answer → Bool → ℕ → Taken
+takenWith a done next = record { number = a .number; done = done; card = a .card; next = next }
+
 -- nothing is left at place `at`
 unfoldable pub ended : ℕ → Taken
-ended at = record { number = 0; done = true; card = zeroCard; next = at }
+ended at = takenWith (refusedWith 0) true at
 
 -- what was read, and the place after it
 unfoldable pub stepped : Answer → ℕ → Taken
-stepped a next = record { number = a .number; done = false; card = a .card; next = next }
+stepped a next = takenWith a false next
 
--- the step at place `at`: the next 88 bytes, a short last part, or done
+-- the step at place `at`: the next record, a short last part, or done
 unfoldable pub takenAt : List ℕ → ℕ → Taken
 takenAt s at =
     cond (leb (length s) at) (ended at)
-    (cond (ltb (length s - at) cardLength) (stepped (record { number = 1; card = zeroCard }) (length s))
+    (cond (ltb (length s - at) cardLength) (stepped (refusedWith 1) (length s))
     (stepped (readCard (take cardLength (drop at s))) (at + cardLength)))
 
 -- ---- what all the steps give
@@ -39,14 +44,14 @@ unfoldable pub answers : List ℕ → ℕ → ℕ → List Seen
 answers s at zero = []
 answers s at (suc n) = seen (takenAt s at) ∷ answers s (takenAt s at .next) n
 
--- n parts in a row from place `at` on, 88 bytes each; the last may be short
+-- n parts in a row from place `at` on, a record each; the last may be short
 unfoldable pub partsFrom : List ℕ → ℕ → ℕ → List (List ℕ)
 partsFrom s at zero = []
 partsFrom s at (suc n) = take cardLength (drop at s) ∷ partsFrom s (at + cardLength) n
 
 -- how many parts a catalogue has, a short last one counted
 unfoldable pub partCount : List ℕ → ℕ
-partCount s = (length s + 87) / cardLength
+partCount s = (length s + (cardLength - 1)) / cardLength
 
 unfoldable pub parts : List ℕ → List (List ℕ)
 parts s = partsFrom s 0 (partCount s)

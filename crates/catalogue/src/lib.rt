@@ -1,22 +1,33 @@
-// A catalogue: records of 88 bytes one after another. Lookup by site, the reader's step, the listing line.
+// A catalogue: records of a card's length one after another. Lookup by site, the reader's step, the listing line.
 // Every function takes any bytes.
 ghost use mathlib.Core.Path.{_≡_};
 ghost use Prim.Native.Nat.{_+_, _≤_};
 ghost use lib.ListN.{length};
-ghost use Rattle.card.specs.Codec as C;
 ghost use Rattle.catalogue.specs.Lookup as L;
 ghost use Rattle.catalogue.specs.Reader as R;
 ghost use Rattle.catalogue.specs.Line as T;
+ghost use Rattle.catalogue.specs.Whole as W;
 ghost use Rattle.octets.specs.Octets as O;
+use card::Answer;
 use card::Card;
-use mark::Vec3;
+use codec::CARD_LENGTH;
 
 mod text;
+
+// The most bytes that a listing line has.
+pub const LINE_MOST: usize = 120;
 
 // What a lookup finds: its refusal number, 0 when found, and the record's first byte, the catalogue's length when refused.
 struct Found {
     number: u32,
     place: usize,
+}
+
+// What the check of a whole catalogue answers: 0 and the number of cards, 14 and 0, or the first bad card's own number and its place, counted
+// in cards from 0.
+pub struct Checked {
+    pub number: u32,
+    pub place: usize,
 }
 
 // One step of a reader: a refusal number, 0 when accepted, whether nothing was left, the card, and the place of the next
@@ -45,7 +56,7 @@ pub fn find<'a>(catalogue: &'a [u8], key: &[u8]) -> &'a [u8]
     if found.number != 0 {
         return &catalogue[start..];
     }
-    let end = start + 88;
+    let end = start + CARD_LENGTH;
     &catalogue[start..end]
 }
 
@@ -65,35 +76,54 @@ pub fn find_place(catalogue: &[u8], key: &[u8]) -> usize
     found.place
 }
 
-// The reader's step at a place: the next 88 bytes read as a card, 1 for a last part that is short, or done.
+// Checks a whole catalogue: its length, then every card up to the first bad one.
+pub fn check(catalogue: &[u8]) -> Checked
+    ensures { λ r. ⌜ r ≡ W.checkAnswer (now (catalogue .entry)) ⌝ }
+{
+    if catalogue.len() % CARD_LENGTH != 0 {
+        return Checked {
+            number: 14,
+            place: 0,
+        };
+    }
+    let mut at = 0usize;
+    let mut place = 0usize;
+    while at < catalogue.len() {
+        let end = at + CARD_LENGTH;
+        let number = codec::check(&catalogue[at..end]);
+        if number != 0 {
+            return Checked { number, place };
+        }
+        at = end;
+        place += 1;
+    }
+    Checked { number: 0, place }
+}
+
+// The reader's step at a place: the next record read as a card, 1 for a last part that is short, or done.
 pub fn take_at(s: &[u8], at: usize) -> Taken
     ensures { λ r. ⌜ r ≡ R.takenAt (now (s .entry)) at ⌝ }
 {
     if s.len() <= at {
-        return Taken {
-            number: 0,
-            done: true,
-            card: blank(),
-            next: at,
-        };
+        return step_of(card::refused(0), true, at);
     }
-    if s.len() - at < 88 {
-        return Taken {
-            number: 1,
-            done: false,
-            card: blank(),
-            next: s.len(),
-        };
+    if s.len() - at < CARD_LENGTH {
+        return step_of(card::refused(1), false, s.len());
     }
-    let end = at + 88;
-    let answer = card::read(&s[at..end]);
-    let number = answer.number;
+    let end = at + CARD_LENGTH;
+    step_of(codec::read(&s[at..end]), false, end)
+}
+
+// A step by what was read, whether nothing was left, and the place after it.
+fn step_of(answer: Answer, done: bool, next: usize) -> Taken
+    ensures { λ r. ⌜ r ≡ R.takenWith answer done next ⌝ }
+{
     let card = answer.card;
     Taken {
-        number,
-        done: false,
+        number: answer.number,
+        done,
         card,
-        next: end,
+        next,
     }
 }
 
@@ -122,7 +152,7 @@ pub fn line(s: &[u8], out: &mut [u8]) -> usize
     ensures { λ r. ⌜ r ≡ length (T.lineOf (now (s .entry))) ⌝ }
     ensures { λ _. ⌜ now (out .exit) ≡ O.splice (now (out .entry)) 0 (T.lineOf (now (s .entry))) ⌝ }
 {
-    let answer = card::read(s);
+    let answer = codec::read(s);
     if answer.number != 0 {
         return put_refused(out, answer.number);
     }
@@ -141,37 +171,20 @@ fn put_refused(out: &mut [u8], number: u32) -> usize
 }
 
 // Site, frame, epoch, position, a line feed.
-fn put_card(out: &mut [u8], card: Card) -> usize
-    requires { ⌜ length (card .site) ≡ 9 ⌝ }
-    ensures { λ r. ⌜ r ≡ length (T.cardLine card) ⌝ }
-    ensures { λ _. ⌜ now (out .exit) ≡ O.splice (now (out .entry)) 0 (T.cardLine card) ⌝ }
+fn put_card(out: &mut [u8], c: Card) -> usize
+    requires { ⌜ length (c .site) ≡ 9 ⌝ }
+    ensures { λ r. ⌜ r ≡ length (T.cardLine c) ⌝ }
+    ensures { λ _. ⌜ now (out .exit) ≡ O.splice (now (out .entry)) 0 (T.cardLine c) ⌝ }
 {
-    let site = card.site;
+    let site = c.site;
     octets::put_bytes(out, 0, &site);
-    let a = text::put_natural(out, 9, card.frame as u64);
-    let b = text::put_integer(out, a, card.epoch);
-    let c = text::put_integer(out, b, card.position.x);
-    let d = text::put_integer(out, c, card.position.y);
-    let e = text::put_integer(out, d, card.position.z);
-    text::put_byte(out, e, 10);
-    e + 1
-}
-
-// The card of all zeros.
-fn blank() -> Card
-    ensures { λ r. ⌜ r ≡ C.zeroCard ⌝ }
-{
-    let zero = Vec3 { x: 0, y: 0, z: 0 };
-    Card {
-        site: [0u8; 9],
-        frame: 0,
-        tide: 0,
-        epoch: 0,
-        mark: zero,
-        velocity: zero,
-        position: zero,
-        solid: zero,
-    }
+    let f = text::put_natural(out, 9, c.frame as u64);
+    let e = text::put_integer(out, f, c.epoch);
+    let x = text::put_integer(out, e, c.position.x);
+    let y = text::put_integer(out, x, c.position.y);
+    let z = text::put_integer(out, y, c.position.z);
+    text::put_byte(out, z, 10);
+    z + 1
 }
 
 // One pass over the records, which stops at the first with the key's site.
@@ -184,7 +197,7 @@ fn scan(catalogue: &[u8], key: &[u8]) -> Found
             place: catalogue.len(),
         };
     }
-    if catalogue.len() % 88 != 0 {
+    if catalogue.len() % CARD_LENGTH != 0 {
         return Found {
             number: 14,
             place: catalogue.len(),
@@ -198,7 +211,7 @@ fn scan(catalogue: &[u8], key: &[u8]) -> Found
                 place: at,
             };
         }
-        at += 88;
+        at += CARD_LENGTH;
     }
     Found {
         number: 15,

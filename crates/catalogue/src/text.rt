@@ -12,7 +12,7 @@ pub fn put_integer(out: &mut [u8], at: usize, z: i64) -> usize
     ensures { λ r. ⌜ r ≡ at + length (32 ∷ T.integer z) ⌝ }
     ensures { λ _. ⌜ now (out .exit) ≡ O.splice (now (out .entry)) at (32 ∷ T.integer z) ⌝ }
 {
-    let m = number::magnitude(z);
+    let m = numbers::magnitude(z);
     if z < 0 {
         put_byte(out, at, 32);
         put_byte(out, at + 1, 45);

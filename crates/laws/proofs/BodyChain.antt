@@ -7,15 +7,16 @@ use lib.Dec.{lit<, lit≤}
 use lib.IntN.{ℤ, pos, natAbs, _+ℤ_, _-ℤ_, _*ℤ_}
 use Rattle.algebra.specs.Fraction.{Fraction, _≈_, _+ᶠ_, _-ᶠ_, _*ᶠ_, _·ᶠ_}
 use Rattle.algebra.proofs.Error.{Val, ratioV, nearV, mulV, timesV, plusV, minusV, weakV, boundV, sameV}
-use Rattle.number.specs.Near.{near}
-use Rattle.number.proofs.NearLaws.{near-half}
+use Rattle.algebra.proofs.Rearranged.{part-same}
+use Rattle.numbers.specs.Near.{near}
+use Rattle.numbers.proofs.NearLaws.{near-half}
 use Rattle.mark.specs.declared.Vec3.{Vec3}
-use Rattle.mark.specs.Mark.{E, times, vec}
-use Rattle.mark.specs.Tide.{strength, cosine, height, upward, sideways, component}
+use Rattle.mark.specs.Mark.{vec}
+use Rattle.tides.specs.Direction.{E, times}
+use Rattle.tides.specs.Tide.{strength, cosine, height, upward, sideways, component}
 use Rattle.laws.specs.Formulas.{Vector, metre, dot, P2, h2, l2, degreeTwo}
 use Rattle.laws.proofs.ErrorTables.{BodyErrors}
 use Rattle.laws.proofs.StepValues.{Stands, times-half, height-is}
-use Rattle.algebra.proofs.Rearranged.{part-same}
 
 -- each component of v stands for metres, off by at most e/1000 of a grain
 pub record Metres (e : ℕ) (v : Vec3) (w : Vector) : Type 0 where

@@ -2,21 +2,23 @@
 use mathlib.Core.Path.{_≡_, refl, sym, _∙_, ap}
 use mathlib.Core.Bool.{Bool, cond}
 use mathlib.Core.List.{[], _∷_}
-use Prim.Native.Nat.{ℕ}
+use Prim.Native.Nat.{ℕ, _≤_}
+use native.Mathlib.Omega.{arith}
 use lib.Dec.{eqb, lit<}
 use lib.IntN.{ℤ, pos, _+ℤ_}
 use Rattle.algebra.proofs.Ring.{by-ring, quote}
+use Rattle.refusal.proofs.RefusalLaws.{NoneHolds}
 use Rattle.mark.specs.declared.Vec3.{Vec3}
-use Rattle.mark.specs.Mark.{nowhere}
-use Rattle.mark.specs.Permanent.{permanent}
-use Rattle.mark.specs.Frame.{frameA, frameB}
-use Rattle.mark.specs.Bodies.{moonOf, sunOf}
-use Rattle.mark.specs.Tide.{plus, tide}
-use Rattle.mark.proofs.RefusalLaws.{NoneHolds}
+use Rattle.mark.specs.Mark.{nowhere, plus, minus}
+use Rattle.frames.specs.Frame.{frameA, frameB, frameAt, frameShift, frameGain}
+use Rattle.tides.specs.Permanent.{permanent}
+use Rattle.tides.specs.Bodies.{moonOf, sunOf}
+use Rattle.tides.specs.Tide.{tide}
 use Rattle.card.specs.declared.Card.{Card}
-use Rattle.card.specs.Checks.{minus}
-use Rattle.card.specs.Calls.{Call, move, frame, meanOn, meanOff, solidOn, solidOff, with-position, frameAt, moved, reframed, next, own, callNumber, step}
+use Rattle.card.specs.Calls.{Call, move, frame, meanOn, meanOff, solidOn, solidOff, with-position, moved, reframed, next, own, callNumber, step}
 use Rattle.card.proofs.CheckLaws.{Passed, passed}
+use Rattle.card.specs.State.{stateOf, withState}
+use Rattle.card.proofs.StateLaws.{state-with}
 use Rattle.card.proofs.ValidLaws.{solid-none}
 use Rattle.card.proofs.CallLaws.{card-accepted, own-accepted, byte-is}
 use Rattle.laws.specs.Lists.{Tides, tidesOf, moveOf, gain, meanShift, inForce, bare, steady, formula}
@@ -94,7 +96,7 @@ core-moved d c = λ i.
 
 -- a frame change keeps the core
 core-reframed : (g : ℕ) (c : Card) → core (reframed g c) ≡ core c
-unfolding core reframed bare steady
+unfolding core reframed bare steady frameShift frameGain
 core-reframed g c = λ i.
     record {
       site = c .site;
@@ -121,14 +123,15 @@ core-tides c byte p v e = λ i.
       position = minus (e i) (frameAt (c .frame) (c .mark) (c .epoch));
     }
 
--- from one byte 10 to another
+-- from one state of byte 10 to another
 retided :
-    (c : Card) (from byte : ℕ) (p v : Vec3)
-    → c .tide ≡ from
-    → minus p (plus v (meanShift byte (c .mark))) ≡ minus (c .position) (plus (c .solid) (meanShift from (c .mark)))
-    → core (with-position c byte p v) ≡ later (pos 0) (core c)
+    (c : Card) (from to : ℕ) (p v : Vec3)
+    → to ≤ 2
+    → stateOf (c .tide) ≡ from
+    → minus p (plus v (meanShift to (c .mark))) ≡ minus (c .position) (plus (c .solid) (meanShift from (c .mark)))
+    → core (with-position c (withState (c .tide) to) p v) ≡ later (pos 0) (core c)
 unfolding inForce
-retided c from byte p v t k = core-tides c byte p v (rw t k) ∙ sym (later-nothing (core c))
+retided c from to p v l t k = core-tides c (withState (c .tide) to) p v (rw (t, state-with (c .tide) to l) k) ∙ sym (later-nothing (core c))
 
 core-kept : (c : Card) (k : Call) → Passed c → NoneHolds (own c (next c k) k) → core (next c k) ≡ later (moveOf k) (core c)
 unfolding next own meanShift
@@ -136,18 +139,18 @@ core-kept c (move d) p h = core-moved d c
 core-kept c (frame g) p h = core-reframed g c ∙ sym (later-nothing (core c))
 core-kept c meanOn p h =
     let s = permanent (c .mark) in
-    retided c 0 1 (plus (c .position) s) (c .solid) (byte-is (c .tide) 0 (h 0 (lit< tt))) (mean-on (c .position) (c .solid) s)
+    retided c 0 1 (plus (c .position) s) (c .solid) (omega arith) (byte-is (stateOf (c .tide)) 0 (h 0 (lit< tt))) (mean-on (c .position) (c .solid) s)
 core-kept c meanOff p h =
     let s = permanent (c .mark) in
-    retided c 1 0 (minus (c .position) s) (c .solid) (byte-is (c .tide) 1 (h 0 (lit< tt))) (mean-off (c .position) (c .solid) s)
+    retided c 1 0 (minus (c .position) s) (c .solid) (omega arith) (byte-is (stateOf (c .tide)) 1 (h 0 (lit< tt))) (mean-off (c .position) (c .solid) s)
 core-kept c (solidOn a b) p h =
     let v = tide (c .mark) (moonOf a b) (sunOf a b) in
-    let free = byte-is (c .tide) 0 (h 0 (lit< tt)) in
+    let free = byte-is (stateOf (c .tide)) 0 (h 0 (lit< tt)) in
     let none = solid-none (c .tide) (c .solid) (p .tide) (ap (λ (n : ℕ). eqb n 2) free) in
-    retided c 0 2 (plus (c .position) v) v free
+    retided c 0 2 (plus (c .position) v) v (omega arith) free
     (solid-on (c .position) v nowhere ∙ ap (λ (s : Vec3). minus (c .position) (plus s nowhere)) (sym none))
 core-kept c solidOff p h =
-    retided c 2 0 (minus (c .position) (c .solid)) nowhere (byte-is (c .tide) 2 (h 0 (lit< tt)))
+    retided c 2 0 (minus (c .position) (c .solid)) nowhere (omega arith) (byte-is (stateOf (c .tide)) 2 (h 0 (lit< tt)))
     (solid-off (c .position) (c .solid) nowhere)
 
 pub core-next : (c : Card) (k : Call) → callNumber c k ≡ 0 → core (next c k) ≡ later (moveOf k) (core c)

@@ -4,11 +4,11 @@ use native.Mathlib.Omega.{arith}
 use lib.Dec.{T}
 use Rattle.algebra.proofs.BoolLaws.{holds}
 use Rattle.mark.specs.declared.Vec3.{Vec3}
-use Rattle.mark.specs.declared.BodyVector.{BodyVector}
 use Rattle.mark.specs.Mark.{lengthOf, marked}
-use Rattle.mark.specs.Bodies.{moon, sun, wholes, inReach}
-use Rattle.mark.proofs.TideLaws.{reached}
-use Rattle.card.proofs.CheckLaws.{mark-long}
+use Rattle.mark.proofs.MarkLaws.{mark-long}
+use Rattle.tides.specs.declared.BodyVector.{BodyVector}
+use Rattle.tides.specs.Bodies.{moon, sun, wholes, inReach}
+use Rattle.tides.proofs.TideLaws.{reached}
 
 pub mark-far : (m : Vec3) → T (marked m) → 6300000 ≤ lengthOf m
 mark-far m t = mark-long m (holds (marked m) t)

@@ -5,10 +5,10 @@ use mathlib.Core.List.{[], _∷_, _++_}
 use Prim.Native.Nat.{ℕ}
 use borrow.Author.Tests.{ne-eqb}
 use lib.Dec.{lit<}
-use Rattle.mark.specs.declared.Body.{Body}
-use Rattle.mark.specs.declared.Body.the-variants.{Moon, Sun}
-use Rattle.mark.specs.Bodies.{paired, moonOf, sunOf}
-use Rattle.mark.specs.Refusal.{Table, choose, first}
+use Rattle.refusal.specs.Refusal.{Table, choose, first}
+use Rattle.tides.specs.declared.Body.{Body}
+use Rattle.tides.specs.declared.Body.the-variants.{Moon, Sun}
+use Rattle.tides.specs.Bodies.{paired, moonOf, sunOf}
 use Rattle.card.specs.declared.Card.{Card}
 use Rattle.card.specs.Checks.{checks}
 use Rattle.card.specs.Calls.{solidOn, next, own, callNumber, settle, step}

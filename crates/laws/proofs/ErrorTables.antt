@@ -4,7 +4,7 @@
 -- (the real distances) or another step is another table, closed by `lit≤ tt` in each row.
 use Prim.Native.Nat.{ℕ, _+_, _*_, _/_, _≤_}
 use lib.Dec.{lit≤}
-use Rattle.mark.specs.Mark.{E}
+use Rattle.tides.specs.Direction.{E}
 
 -- a product: e and f are the factors' errors, a and b their sizes (`mulV`)
 abbrev pub product : ℕ → ℕ → ℕ → ℕ → ℕ

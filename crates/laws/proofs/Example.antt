@@ -3,24 +3,25 @@ use mathlib.Core.Path.{_≡_, refl}
 use mathlib.Core.List.{List, [], _∷_}
 use Prim.Native.Nat.{ℕ}
 use lib.IntN.{pos, negℤ}
-use Rattle.number.specs.Near.{nearest, near}
-use Rattle.number.specs.Root.{refine, rootIn, root}
-use Rattle.mark.specs.Mark.{vec, nowhere, times, squares, lengthOf, marked}
-use Rattle.mark.specs.Permanent.{unit, s2, legendre, small, radial, north, down, across, along, permanentOf, permanent}
-use Rattle.mark.specs.Frame.{knownFrame, rowOf, offset, drift, frameA, frameB}
-use Rattle.mark.specs.Tide.{plus}
-use Rattle.mark.specs.Refusal.{first}
+use Rattle.refusal.specs.Refusal.{first}
+use Rattle.numbers.specs.Near.{nearest, near}
+use Rattle.numbers.specs.Root.{refine, rootIn, root}
+use Rattle.mark.specs.Mark.{vec, nowhere, squares, lengthOf, marked, plus, sized, minus, scaled}
+use Rattle.frames.specs.Frame.{knownFrame, rowOf, offset, drift, frameA, frameB, frameAt, frameShift, frameGain}
+use Rattle.tides.specs.Direction.{times, unit, legendre}
+use Rattle.tides.specs.Permanent.{s2, small, radial, north, down, across, along, permanentOf, permanent}
 use Rattle.card.specs.declared.Card.{Card}
-use Rattle.card.specs.Checks.{sized, minus, scaled, digit, shapeAt, shapeFrom, siteShape, isZero, tideFits, epochFits, velocityFits, fromMark, positionFits, vectorFits, checks, cardNumber, Valid}
-use Rattle.card.specs.Calls.{Call, move, frame, meanOn, meanOff, frameAt, moved, reframed, next, own, callNumber, settle, step}
-use Rattle.card.specs.Field.{roundedBy, offsetOf, speedOf, expandedOf}
+use Rattle.card.specs.State.{stateOf, withState, stateFits}
+use Rattle.card.specs.Checks.{digit, shapeAt, shapeFrom, siteShape, isZero, tideFits, epochFits, velocityFits, fromMark, positionFits, vectorFits, checks, cardNumber, Valid}
+use Rattle.card.specs.Calls.{Call, move, frame, meanOn, meanOff, moved, reframed, next, own, callNumber, settle, step}
 use Rattle.card.specs.Sample.{at}
-use Rattle.card.proofs.PackLaws.{taken}
+use Rattle.field.specs.Field.{roundedBy, offsetOf, speedOf, expandedOf}
+use Rattle.field.proofs.PackLaws.{taken}
 use Rattle.laws.specs.Lists.{run, numbers, Accepted, gain, net}
 
 -- all that a run computes with: to unfold one of these names is to unfold what its line names
 unfoldable checking : ℕ
-unfolding first checks sized digit shapeAt shapeFrom siteShape isZero tideFits epochFits velocityFits fromMark positionFits vectorFits
+unfolding first checks sized digit shapeAt shapeFrom siteShape isZero tideFits stateOf withState stateFits epochFits velocityFits fromMark positionFits vectorFits
 checking = 0
 
 unfoldable marking : ℕ
@@ -28,7 +29,7 @@ unfolding knownFrame marked lengthOf squares root rootIn refine nearest near tim
 marking = 0
 
 unfoldable shifting : ℕ
-unfolding unit s2 legendre small radial north down across along permanentOf permanent rowOf offset drift frameA frameB frameAt
+unfolding unit s2 legendre small radial north down across along permanentOf permanent rowOf offset drift frameA frameB frameAt frameShift frameGain
 shifting = 0
 
 unfoldable computing : ℕ

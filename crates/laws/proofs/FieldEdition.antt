@@ -8,15 +8,17 @@ use lib.ListN.{length}
 use Rattle.algebra.proofs.IntLaws.{abs-swap}
 use Rattle.mark.specs.declared.Vec3.{Vec3}
 use Rattle.mark.specs.Ranges.{Within}
+use Rattle.mark.specs.Mark.{minus}
+use Rattle.card.specs.State.{stateOf}
 use Rattle.card.specs.declared.Card.{Card}
 use Rattle.card.specs.declared.Answer.{Answer}
-use Rattle.card.specs.Checks.{minus, cardNumber, Valid}
-use Rattle.card.specs.Field.{fieldOf, exportNumber, exported, openedOf, expandedOf, expandCard}
+use Rattle.card.specs.Checks.{cardNumber, Valid}
 use Rattle.card.specs.Calls.{Call}
 use Rattle.card.proofs.CheckLaws.{number-valid}
-use Rattle.card.proofs.FieldLaws.{opened-field, number-field, number-expanded, export-accepted, expand-exported}
-use Rattle.card.proofs.PackLaws.{taken}
-use Rattle.card.proofs.ReturnLaws.{Close, Returned, returned-call}
+use Rattle.field.specs.Field.{fieldOf, exportNumber, exported, openedOf, expandedOf, expandCard}
+use Rattle.field.proofs.FieldLaws.{opened-field, number-field, number-expanded, export-accepted, expand-exported}
+use Rattle.field.proofs.PackLaws.{taken}
+use Rattle.field.proofs.ReturnLaws.{Close, Returned, returned-call}
 use Rattle.laws.specs.Lists.{run, net, Accepted}
 use Rattle.laws.specs.TwoCards.{Alike, halfUnit, halfSpeed, fieldBound}
 use Rattle.laws.proofs.FieldBound.{alike-unstored, field-bound}
@@ -32,7 +34,7 @@ module _ (c : Card) (out : List ℕ) (h : exportNumber c (length out) ≡ 0) whe
   number-c : cardNumber c ≡ 0
   number-c = export-accepted c (length out) h .1
 
-  no-solid : eqb (c .tide) 2 ≡ false
+  no-solid : eqb (stateOf (c .tide)) 2 ≡ false
   no-solid = export-accepted c (length out) h .2
 
   pub edition-valid : Valid (edition c out)

@@ -7,7 +7,7 @@ use Prim.Native.Nat.{ℕ, _+_, _*_, _/_, _^_}
 use lib.Dec.{T, leb, ltb, leb→le, ltb→lt, lit<}
 use lib.IntN.{ℤ, pos, negsuc, negℤ}
 use Rattle.algebra.specs.Fraction.{Fraction, whole, ratio, wholly, _+ᶠ_, _-ᶠ_, _*ᶠ_, _·ᶠ_, _/ᶠ_, _÷ᶠ_}
-use Rattle.number.proofs.RootLaws.{root-same}
+use Rattle.numbers.proofs.RootLaws.{root-same}
 use Rattle.mark.specs.declared.Vec3.{Vec3}
 use Rattle.mark.specs.Mark.{vec, squares, lengthOf}
 use Rattle.laws.specs.Formulas.{Vector, dot, P2, radial, north, Re, strengthAt, h2, l2, permanentFormula, solidFormula}

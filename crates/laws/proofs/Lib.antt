@@ -8,7 +8,6 @@ pub mod BodyChain
 pub mod SolidBound
 pub mod FormulaCases
 pub mod VectorLaws
-pub mod FirstLaws
 pub mod CallLaws
 pub mod CoreLaws
 pub mod StaysValid

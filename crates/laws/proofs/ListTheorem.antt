@@ -4,8 +4,8 @@ use mathlib.Core.List.{List, [], _∷_}
 use Prim.Native.Nat.{ℕ}
 use lib.IntN.{_+ℤ_}
 use Rattle.card.specs.declared.Card.{Card}
-use Rattle.card.specs.Codec.{encode}
 use Rattle.card.specs.Calls.{Call, step}
+use Rattle.codec.specs.Codec.{encode}
 use Rattle.laws.specs.Lists.{run, net, gain, Accepted, total, Tides, tidesOf, frameFrom, tidesFrom, lastFrame, lastTides, formula}
 use Rattle.laws.specs.Core.{core, later, dressed}
 use Rattle.laws.proofs.CallLaws.{accepted-gain, frame-step, tides-step}

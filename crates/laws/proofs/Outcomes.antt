@@ -2,13 +2,17 @@
 use mathlib.Core.Path.{_≡_, sym, _∙_}
 use mathlib.Core.List.{List}
 use Prim.Native.Nat.{ℕ}
-use Rattle.number.proofs as number
+use Rattle.laws.specs.OneOutcome.{OneOutcome, OneShown}
+use Rattle.numbers.proofs as numbers
 use Rattle.octets.proofs as octets
 use Rattle.mark.proofs as mark
+use Rattle.frames.proofs as frames
+use Rattle.tides.proofs as tides
 use Rattle.card.proofs as card
+use Rattle.codec.proofs as codec
+use Rattle.field.proofs as field
 use Rattle.catalogue.proofs as catalogue
 use Rattle.netvjesha.proofs as netvjesha
-use Rattle.laws.specs.OneOutcome.{OneOutcome, OneShown}
 
 -- both equal what the promise says
 same : {A : Type 0} {x y z : A} → x ≡ z → y ≡ z → x ≡ y
@@ -16,16 +20,16 @@ same p q = p ∙ sym q
 
 -- ---- an answer, and nothing lent to write to
 
-pub magnitude-one : OneOutcome 0 number.magnitude.Kinds.ps number.magnitude.Kinds.r number.magnitude.Reads.Learnt
+pub magnitude-one : OneOutcome 0 numbers.magnitude.Kinds.ps numbers.magnitude.Kinds.r numbers.magnitude.Reads.Learnt
 magnitude-one κs a z z′ w w′ p q i = (same p q i, w)
 
-pub near-one : OneOutcome 0 number.near.Kinds.ps number.near.Kinds.r number.near.Reads.Learnt
+pub near-one : OneOutcome 0 numbers.near.Kinds.ps numbers.near.Kinds.r numbers.near.Reads.Learnt
 near-one κs a z z′ w w′ p q i = (same p q i, w)
 
-pub root-one : OneOutcome 0 number.root.Kinds.ps number.root.Kinds.r number.root.Reads.Learnt
+pub root-one : OneOutcome 0 numbers.root.Kinds.ps numbers.root.Kinds.r numbers.root.Reads.Learnt
 root-one κs a z z′ w w′ p q i = (same p q i, w)
 
-pub whole-one : OneOutcome 0 number.whole.Kinds.ps number.whole.Kinds.r number.whole.Reads.Learnt
+pub whole-one : OneOutcome 0 numbers.whole.Kinds.ps numbers.whole.Kinds.r numbers.whole.Reads.Learnt
 whole-one κs a z z′ w w′ p q i = (same p q i, w)
 
 pub unsigned-at-one : OneOutcome 1 octets.unsigned_at.Kinds.ps octets.unsigned_at.Kinds.r octets.unsigned_at.Reads.Learnt
@@ -37,28 +41,55 @@ signed-at-one κs a z z′ w w′ p q i = (same p q i, w)
 pub double-at-one : OneOutcome 1 octets.double_at.Kinds.ps octets.double_at.Kinds.r octets.double_at.Reads.Learnt
 double-at-one κs a z z′ w w′ p q i = (same p q i, w)
 
+pub width-one : OneOutcome 0 octets.width.Kinds.ps octets.width.Kinds.r octets.width.Reads.Learnt
+width-one κs a z z′ w w′ p q i = (same p q i, w)
+
 pub check-mark-one : OneOutcome 0 mark.check_mark.Kinds.ps mark.check_mark.Kinds.r mark.check_mark.Reads.Learnt
 check-mark-one κs a z z′ w w′ p q i = (same p q i, w)
 
-pub permanent-one : OneOutcome 0 mark.permanent.Kinds.ps mark.permanent.Kinds.r mark.permanent.Reads.Learnt
+pub length-of-one : OneOutcome 0 mark.length_of.Kinds.ps mark.length_of.Kinds.r mark.length_of.Reads.Learnt
+length-of-one κs a z z′ w w′ p q i = (same p q i, w)
+
+pub squares-within-one : OneOutcome 0 mark.squares_within.Kinds.ps mark.squares_within.Kinds.r mark.squares_within.Reads.Learnt
+squares-within-one κs a z z′ w w′ p q i = (same p q i, w)
+
+pub sized-one : OneOutcome 0 mark.sized.Kinds.ps mark.sized.Kinds.r mark.sized.Reads.Learnt
+sized-one κs a z z′ w w′ p q i = (same p q i, w)
+
+pub permanent-one : OneOutcome 0 tides.permanent.Kinds.ps tides.permanent.Kinds.r tides.permanent.Reads.Learnt
 permanent-one κs a z z′ w w′ p q i = (same p q i, w)
 
-pub frame-terms-one : OneOutcome 0 mark.frame_terms.Kinds.ps mark.frame_terms.Kinds.r mark.frame_terms.Reads.Learnt
+pub frame-terms-one : OneOutcome 0 frames.frame_terms.Kinds.ps frames.frame_terms.Kinds.r frames.frame_terms.Reads.Learnt
 frame-terms-one κs a z z′ w w′ p q i = (same p q i, w)
 
-pub solid-tide-one : OneOutcome 0 mark.solid_tide.Kinds.ps mark.solid_tide.Kinds.r mark.solid_tide.Reads.Learnt
+pub solid-tide-one : OneOutcome 0 tides.solid_tide.Kinds.ps tides.solid_tide.Kinds.r tides.solid_tide.Reads.Learnt
 solid-tide-one κs a z z′ w w′ p q i = (same p q i, w)
 
-pub read-one : OneOutcome 1 card.read.Kinds.ps card.read.Kinds.r card.read.Reads.Learnt
+pub read-one : OneOutcome 1 codec.read.Kinds.ps codec.read.Kinds.r codec.read.Reads.Learnt
 read-one κs a z z′ w w′ p q i = (same p q i, w)
 
-pub expand-one : OneOutcome 1 card.expand.Kinds.ps card.expand.Kinds.r card.expand.Reads.Learnt
+pub site-of-one : OneOutcome 1 codec.layout.site_of.Kinds.ps codec.layout.site_of.Kinds.r codec.layout.site_of.Reads.Learnt
+site-of-one κs a z z′ w w′ p q i = (same p q i, w)
+
+pub vector-at-one : OneOutcome 1 codec.layout.vector_at.Kinds.ps codec.layout.vector_at.Kinds.r codec.layout.vector_at.Reads.Learnt
+vector-at-one κs a z z′ w w′ p q i = (same p q i, w)
+
+pub codec-check-one : OneOutcome 1 codec.check.Kinds.ps codec.check.Kinds.r codec.check.Reads.Learnt
+codec-check-one κs a z z′ w w′ p q i = (same p q i, w)
+
+pub expand-one : OneOutcome 1 field.expand.Kinds.ps field.expand.Kinds.r field.expand.Reads.Learnt
 expand-one κs a z z′ w w′ p q i = (same p q i, w)
 
 pub check-one : OneOutcome 0 card.Card.check.Kinds.ps card.Card.check.Kinds.r card.Card.check.Reads.Learnt
 check-one κs a z z′ w w′ p q i = (same p q i, w)
 
-pub metres-out-one : OneOutcome 0 card.Card.metres_out.Kinds.ps card.Card.metres_out.Kinds.r card.Card.metres_out.Reads.Learnt
+pub check-with-one : OneOutcome 0 card.Card.check_with.Kinds.ps card.Card.check_with.Kinds.r card.Card.check_with.Reads.Learnt
+check-with-one κs a z z′ w w′ p q i = (same p q i, w)
+
+pub from-mark-one : OneOutcome 0 card.Card.from_mark.Kinds.ps card.Card.from_mark.Kinds.r card.Card.from_mark.Reads.Learnt
+from-mark-one κs a z z′ w w′ p q i = (same p q i, w)
+
+pub metres-out-one : OneOutcome 0 field.metres_out.Kinds.ps field.metres_out.Kinds.r field.metres_out.Reads.Learnt
 metres-out-one κs a z z′ w w′ p q i = (same p q i, w)
 
 pub move-by-one : OneOutcome 0 card.Card.move_by.Kinds.ps card.Card.move_by.Kinds.r card.Card.move_by.Reads.Learnt
@@ -79,6 +110,21 @@ solid-on-one κs a z z′ w w′ p q i = (same p q i, w)
 pub solid-off-one : OneOutcome 0 card.Card.solid_off.Kinds.ps card.Card.solid_off.Kinds.r card.Card.solid_off.Reads.Learnt
 solid-off-one κs a z z′ w w′ p q i = (same p q i, w)
 
+pub check-head-one : OneOutcome 0 card.check_head.Kinds.ps card.check_head.Kinds.r card.check_head.Reads.Learnt
+check-head-one κs a z z′ w w′ p q i = (same p q i, w)
+
+pub refused-one : OneOutcome 0 card.refused.Kinds.ps card.refused.Kinds.r card.refused.Reads.Learnt
+refused-one κs a z z′ w w′ p q i = (same p q i, w)
+
+pub epoch-fits-one : OneOutcome 0 card.epoch_fits.Kinds.ps card.epoch_fits.Kinds.r card.epoch_fits.Reads.Learnt
+epoch-fits-one κs a z z′ w w′ p q i = (same p q i, w)
+
+pub state-of-one : OneOutcome 0 card.state.state_of.Kinds.ps card.state.state_of.Kinds.r card.state.state_of.Reads.Learnt
+state-of-one κs a z z′ w w′ p q i = (same p q i, w)
+
+pub with-state-one : OneOutcome 0 card.state.with_state.Kinds.ps card.state.with_state.Kinds.r card.state.with_state.Reads.Learnt
+with-state-one κs a z z′ w w′ p q i = (same p q i, w)
+
 pub is-site-one : OneOutcome 1 card.is_site.Kinds.ps card.is_site.Kinds.r card.is_site.Reads.Learnt
 is-site-one κs a z z′ w w′ p q i = (same p q i, w)
 
@@ -91,8 +137,14 @@ find-place-one κs a z z′ w w′ p q i = (same p q i, w)
 pub take-at-one : OneOutcome 1 catalogue.take_at.Kinds.ps catalogue.take_at.Kinds.r catalogue.take_at.Reads.Learnt
 take-at-one κs a z z′ w w′ p q i = (same p q i, w)
 
+pub catalogue-check-one : OneOutcome 1 catalogue.check.Kinds.ps catalogue.check.Kinds.r catalogue.check.Reads.Learnt
+catalogue-check-one κs a z z′ w w′ p q i = (same p q i, w)
+
 pub nv-check-one : OneOutcome 1 netvjesha.nv_check.Kinds.ps netvjesha.nv_check.Kinds.r netvjesha.nv_check.Reads.Learnt
 nv-check-one κs a z z′ w w′ p q i = (same p q i, w)
+
+pub nv-check-catalogue-one : OneOutcome 1 netvjesha.nv_check_catalogue.Kinds.ps netvjesha.nv_check_catalogue.Kinds.r netvjesha.nv_check_catalogue.Reads.Learnt
+nv-check-catalogue-one κs a z z′ w w′ p q i = (same p q i, w)
 
 pub nv-find-one : OneOutcome 2 netvjesha.nv_find.Kinds.ps netvjesha.nv_find.Kinds.r netvjesha.nv_find.Reads.Learnt
 nv-find-one κs a z z′ w w′ p q i = (same p q i, w)
@@ -108,16 +160,40 @@ put-signed-one κs a z z′ w w′ p q i = (z, (same p q i, w .1))
 pub put-bytes-one : OneOutcome 2 octets.put_bytes.Kinds.ps octets.put_bytes.Kinds.r octets.put_bytes.Reads.Learnt
 put-bytes-one κs a z z′ w w′ p q i = (z, (same p q i, w .1))
 
-pub series-one : OneOutcome 2 mark.series.Kinds.ps mark.series.Kinds.r mark.series.Reads.Learnt
+pub put-vector-one : OneOutcome 1 codec.layout.put_vector.Kinds.ps codec.layout.put_vector.Kinds.r codec.layout.put_vector.Reads.Learnt
+put-vector-one κs a z z′ w w′ p q i = (z, (same p q i, w .1))
+
+pub put-head-one : OneOutcome 1 codec.layout.put_head.Kinds.ps codec.layout.put_head.Kinds.r codec.layout.put_head.Reads.Learnt
+put-head-one κs a z z′ w w′ p q i = (z, (same p q i, w .1))
+
+pub series-one : OneOutcome 2 tides.series.Kinds.ps tides.series.Kinds.r tides.series.Reads.Learnt
 series-one κs a z z′ w w′ p q i = (same (p .0) (q .0) i, (w .0, (w .1 .0, (same (p .1) (q .1) i, w .1 .1 .1))))
 
-pub write-one : OneOutcome 1 card.write.Kinds.ps card.write.Kinds.r card.write.Reads.Learnt
+pub write-one : OneOutcome 1 codec.write.Kinds.ps codec.write.Kinds.r codec.write.Reads.Learnt
 write-one κs a z z′ w w′ p q i = (same (p .0) (q .0) i, (w .0, (same (p .1) (q .1) i, w .1 .1)))
 
-pub call-bytes-one : OneOutcome 2 card.call_bytes.Kinds.ps card.call_bytes.Kinds.r card.call_bytes.Reads.Learnt
+pub bytes-move-by-one : OneOutcome 2 codec.bytes.move_by.Kinds.ps codec.bytes.move_by.Kinds.r codec.bytes.move_by.Reads.Learnt
+bytes-move-by-one κs a z z′ w w′ p q i = (same (p .0) (q .0) i, (w .0, (w .1 .0, (same (p .1) (q .1) i, w .1 .1 .1))))
+
+pub bytes-to-frame-one : OneOutcome 2 codec.bytes.to_frame.Kinds.ps codec.bytes.to_frame.Kinds.r codec.bytes.to_frame.Reads.Learnt
+bytes-to-frame-one κs a z z′ w w′ p q i = (same (p .0) (q .0) i, (w .0, (w .1 .0, (same (p .1) (q .1) i, w .1 .1 .1))))
+
+pub bytes-mean-on-one : OneOutcome 2 codec.bytes.mean_on.Kinds.ps codec.bytes.mean_on.Kinds.r codec.bytes.mean_on.Reads.Learnt
+bytes-mean-on-one κs a z z′ w w′ p q i = (same (p .0) (q .0) i, (w .0, (same (p .1) (q .1) i, w .1 .1)))
+
+pub bytes-mean-off-one : OneOutcome 2 codec.bytes.mean_off.Kinds.ps codec.bytes.mean_off.Kinds.r codec.bytes.mean_off.Reads.Learnt
+bytes-mean-off-one κs a z z′ w w′ p q i = (same (p .0) (q .0) i, (w .0, (same (p .1) (q .1) i, w .1 .1)))
+
+pub bytes-solid-on-one : OneOutcome 2 codec.bytes.solid_on.Kinds.ps codec.bytes.solid_on.Kinds.r codec.bytes.solid_on.Reads.Learnt
+bytes-solid-on-one κs a z z′ w w′ p q i = (same (p .0) (q .0) i, (w .0, (w .1 .0, (w .1 .1 .0, (same (p .1) (q .1) i, w .1 .1 .1 .1)))))
+
+pub bytes-solid-off-one : OneOutcome 2 codec.bytes.solid_off.Kinds.ps codec.bytes.solid_off.Kinds.r codec.bytes.solid_off.Reads.Learnt
+bytes-solid-off-one κs a z z′ w w′ p q i = (same (p .0) (q .0) i, (w .0, (same (p .1) (q .1) i, w .1 .1)))
+
+pub call-bytes-one : OneOutcome 2 codec.call_bytes.Kinds.ps codec.call_bytes.Kinds.r codec.call_bytes.Reads.Learnt
 call-bytes-one κs a z z′ w w′ p q i = (same (p .0) (q .0) i, (w .0, (w .1 .0, (same (p .1) (q .1) i, w .1 .1 .1))))
 
-pub export-one : OneOutcome 1 card.export.Kinds.ps card.export.Kinds.r card.export.Reads.Learnt
+pub export-one : OneOutcome 1 field.export.Kinds.ps field.export.Kinds.r field.export.Reads.Learnt
 export-one κs a z z′ w w′ p q i = (same (p .0) (q .0) i, (w .0, (same (p .1) (q .1) i, w .1 .1)))
 
 pub line-one : OneOutcome 2 catalogue.line.Kinds.ps catalogue.line.Kinds.r catalogue.line.Reads.Learnt

@@ -10,16 +10,17 @@ use lib.IntN.{ℤ, pos, negℤ, _+ℤ_, _-ℤ_, _*ℤ_}
 use Rattle.algebra.specs.Fraction.{Fraction, whole, ratio, wholly, _+ᶠ_, _-ᶠ_, _*ᶠ_, _·ᶠ_}
 use Rattle.algebra.proofs.Difference.{split, ℤ⊖}
 use Rattle.algebra.proofs.Error.{Val, miss, nearV, mulV, timesV, plusV, minusV, weakV, isV, sameV}
+use Rattle.algebra.proofs.Rearranged.{across-same, along-same}
 use Rattle.mark.specs.declared.Vec3.{Vec3}
-use Rattle.mark.specs.Mark.{E, lengthOf, marked}
-use Rattle.mark.specs.Permanent.{units, s2, legendre, small, radial, north, down, across, along, permanentOf, permanent}
-use Rattle.mark.specs.Tide.{height}
-use Rattle.laws.specs.Formulas as Exact
+use Rattle.mark.specs.Mark.{lengthOf, marked}
+use Rattle.tides.specs.Direction.{E, units, legendre}
+use Rattle.tides.specs.Permanent.{s2, small, radial, north, down, across, along, permanentOf, permanent}
+use Rattle.tides.specs.Tide.{height}
 use Rattle.laws.specs.Formulas.{bound, Vector, Close, metre, direction, P2, permanentAt, permanentFormula}
 use Rattle.laws.proofs.Distances.{mark-positive}
 use Rattle.laws.proofs.ErrorTables.{PermanentErrors, whole-permanent}
 use Rattle.laws.proofs.StepValues.{Stands, times-half, square-is, height-is, grains-is, whole-stands}
-use Rattle.algebra.proofs.Rearranged.{across-same, along-same}
+use Rattle.laws.specs.Formulas as Exact
 
 -- ---- the paper's constants
 

@@ -10,21 +10,21 @@ use lib.Dec.{T, lit<, lit≤}
 use lib.IntN.{pos, natAbs, _*ℤ_}
 use Rattle.algebra.specs.Fraction.{Fraction, Positive, _≈_, whole, ratio, wholly, _*ᶠ_, _÷ᶠ_}
 use Rattle.algebra.proofs.Error.{Val, miss, quotientV, plusV}
-use Rattle.number.proofs.NearLaws.{near-half}
+use Rattle.algebra.proofs.Rearranged.{cubes-same}
+use Rattle.numbers.proofs.NearLaws.{near-half}
 use Rattle.mark.specs.declared.Vec3.{Vec3}
-use Rattle.mark.specs.declared.BodyVector.{BodyVector}
-use Rattle.mark.specs.Mark.{E, lengthOf, marked}
-use Rattle.mark.specs.Permanent.{units}
-use Rattle.mark.specs.Bodies.{Kind, moon, sun, wholes, inReach}
-use Rattle.mark.specs.Tide.{nearness, strength, partOf, plus, tideAt, tide}
-use Rattle.mark.specs.Ranges.{Direction}
-use Rattle.mark.proofs.DirectionLaws.{mark-direction, body-sum, cosine-bound}
-use Rattle.mark.proofs.TideLaws.{moon-strength, sun-strength, reached as body-far}
+use Rattle.mark.specs.Mark.{lengthOf, marked, plus}
+use Rattle.tides.specs.declared.BodyVector.{BodyVector}
+use Rattle.tides.specs.Direction.{E, units}
+use Rattle.tides.specs.Bodies.{Kind, moon, sun, wholes, inReach}
+use Rattle.tides.specs.Tide.{nearness, strength, standing, degreeTwo, partOf, tideAt, tide}
+use Rattle.tides.specs.Steps.{Direction}
+use Rattle.tides.proofs.DirectionLaws.{mark-direction, body-sum, cosine-bound}
+use Rattle.tides.proofs.TideLaws.{moon-strength, sun-strength, reached as body-far}
 use Rattle.laws.specs.Formulas.{bound, Vector, _+ᵛ_, Close, Puller, metre, grains, direction, Re, theMoon, theSun, inMetres, strengthAt, pulled, solidFormula}
 use Rattle.laws.proofs.Distances.{mark-far, mark-positive, moon-positive, sun-positive}
 use Rattle.laws.proofs.ErrorTables.{BodyErrors, whole-body}
 use Rattle.laws.proofs.StepValues.{Stands, grains-is, whole-stands}
-use Rattle.algebra.proofs.Rearranged.{cubes-same}
 use Rattle.laws.proofs.BodyChain.{Metres, part-is}
 
 -- ---- one body
@@ -64,7 +64,7 @@ sun-known =
     }
 
 -- what the chain takes of a body at the distance R: its unit vector and R0/R, as they are rounded at the whole distance
-pub record Placed (d q : ℕ) (k : Kind) (v : Vec3) (R : Positive) : Type 0 where
+pub record StandsFor (d q : ℕ) (k : Kind) (v : Vec3) (R : Positive) : Type 0 where
   pub towards : Stands d (units (lengthOf v) v) (direction v R)
   pub nearness-is : Val E (nearness (k .r0) (lengthOf v)) (whole (pos (k .r0)) ÷ᶠ R) q 1179275307
   pub reached : k .low ≤ lengthOf v
@@ -80,9 +80,9 @@ pub body-chain :
     {nu nd nq : ℕ} {k : Kind} {b : Puller} (table : BodyErrors nu nd nq) (known : Known k b) (u : Vec3) (r : Vector) (v : Vec3) (R : Positive)
     → Direction u
     → Stands nu u r
-    → Placed nd nq k v R
+    → StandsFor nd nq k v R
     → Metres (table .x) (partOf (k .r0) (k .k0) u v (lengthOf v)) (pulled b r v R)
-unfolding partOf
+unfolding partOf standing degreeTwo
 body-chain {k = k} {b} table known u r v R hu u-is placed =
     let l = lengthOf v in
     part-is table (k .k0) (nearness (k .r0) l) u (units l v) r (direction v R)
@@ -114,7 +114,7 @@ whole-nearness : (r0 l : ℕ) (p : 0 < l) → r0 * E ≤ 1179275307 * l → Val 
 unfolding nearness
 whole-nearness r0 l p h = quotientV E l (pos r0) p (near-half (pos r0 *ℤ pos E) l p) h
 
-whole-placed : {k : Kind} {b : Puller} → Known k b → (v : Vec3) (p : 0 < lengthOf v) → k .low ≤ lengthOf v → Placed 500 500 k v (wholly (lengthOf v) p)
+whole-placed : {k : Kind} {b : Puller} → Known k b → (v : Vec3) (p : 0 < lengthOf v) → k .low ≤ lengthOf v → StandsFor 500 500 k v (wholly (lengthOf v) p)
 whole-placed {k} known v p h =
     record {
       towards = whole-stands v p;

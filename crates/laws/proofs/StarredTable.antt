@@ -1,21 +1,23 @@
 -- The starred numbers of the paper hold, together, computed on the definitions.
 use mathlib.Core.Path.{refl}
 use lib.Ieee.{ofBits}
-use Rattle.number.specs.Near.{near, nearest}
-use Rattle.number.specs.Root.{root, rootIn, refine}
-use Rattle.number.specs.Whole.{wholeOf}
-use Rattle.mark.specs.Mark.{times, plus, minus, scaled, squares, lengthOf, marked, markNumber}
-use Rattle.mark.specs.Permanent.{unit, s2, legendre, small, radial, north, down, across, along, permanentOf, permanent}
-use Rattle.mark.specs.Frame.{knownFrame, rowOf, offset, drift, frameA, frameB, frameAt, frameShift}
-use Rattle.mark.specs.Tide.{nearness, strength, cosine, height, upward, sideways, component, partOf}
-use Rattle.mark.specs.Refusal.{first}
-use Rattle.card.specs.Checks.{sized, digit, shapeAt, shapeFrom, siteShape, isZero, tideFits, epochFits, velocityFits, fromMark, positionFits, vectorFits, checks}
-use Rattle.card.specs.Field.{roundedBy}
+use Rattle.refusal.specs.Refusal.{first}
+use Rattle.numbers.specs.Near.{near, nearest}
+use Rattle.numbers.specs.Root.{root, rootIn, refine}
+use Rattle.numbers.specs.Whole.{wholeOf}
+use Rattle.mark.specs.Mark.{plus, minus, scaled, squares, lengthOf, marked, markNumber, sized}
+use Rattle.frames.specs.Frame.{knownFrame, rowOf, offset, drift, frameA, frameB, frameAt, frameShift, frameGain}
+use Rattle.tides.specs.Direction.{times, unit, legendre}
+use Rattle.tides.specs.Permanent.{s2, small, radial, north, down, across, along, permanentOf, permanent}
+use Rattle.tides.specs.Tide.{nearness, strength, cosine, height, upward, sideways, component, standing, degreeTwo, partOf}
+use Rattle.card.specs.State.{stateOf, withState, stateFits}
+use Rattle.card.specs.Checks.{digit, shapeAt, shapeFrom, siteShape, isZero, tideFits, epochFits, velocityFits, fromMark, positionFits, vectorFits, checks}
 use Rattle.card.specs.Calls.{moved, next, own, callNumber, settle, step}
+use Rattle.field.specs.Field.{roundedBy}
 use Rattle.laws.specs.Starred.{Starred}
 
 pub starred : Starred
-unfolding near nearest root rootIn refine wholeOf ofBits times plus minus scaled squares lengthOf marked markNumber unit s2 legendre small radial north down across along permanentOf permanent knownFrame rowOf offset drift frameA frameB frameAt frameShift nearness strength cosine height upward sideways component partOf first sized digit shapeAt shapeFrom siteShape isZero tideFits epochFits velocityFits fromMark positionFits vectorFits checks roundedBy moved next own callNumber settle step
+unfolding near nearest root rootIn refine wholeOf ofBits times plus minus scaled squares lengthOf marked markNumber unit s2 legendre small radial north down across along permanentOf permanent knownFrame rowOf offset drift frameA frameB frameAt frameShift frameGain nearness strength cosine height upward sideways component standing degreeTwo partOf first sized digit shapeAt shapeFrom siteShape isZero tideFits stateOf withState stateFits epochFits velocityFits fromMark positionFits vectorFits checks roundedBy moved next own callNumber settle step
 starred =
     record {
       case-1 = (refl, refl, refl);

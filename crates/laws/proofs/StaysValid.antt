@@ -3,13 +3,13 @@ use mathlib.Core.Path.{_≡_, sym, _∙_}
 use mathlib.Core.Bool.{Bool, not}
 use mathlib.Core.List.{List, [], _∷_}
 use lib.Dec.{T}
+use Rattle.refusal.proofs.FirstLaws.{among, unlisted}
 use Rattle.card.specs.declared.Card.{Card}
 use Rattle.card.specs.Checks.{Valid}
 use Rattle.card.specs.Calls.{Call, move, frame, meanOn, meanOff, solidOn, solidOff, next, own, callNumber, step}
 use Rattle.card.proofs.CheckLaws.{number-valid, valid-number}
 use Rattle.card.proofs.CallLaws.{own-number, stays-valid as accepted-again}
 use Rattle.laws.specs.Lists.{run}
-use Rattle.laws.proofs.FirstLaws.{among, unlisted}
 use Rattle.laws.proofs.CallLaws.{settled}
 
 pub next-valid : (c : Card) (k : Call) → callNumber c k ≡ 0 → Valid (next c k)

@@ -7,13 +7,13 @@ use lib.IntN.{ℤ, pos, natAbs, _-ℤ_, _*ℤ_}
 use Rattle.algebra.specs.Fraction.{Fraction, Within, whole, wholly, _*ᶠ_, _·ᶠ_, _÷ᶠ_}
 use Rattle.algebra.specs.Rounding.{Half}
 use Rattle.algebra.proofs.Error.{Val, miss, constV, quotientV, nearV, mulV, timesV, overV, minusV, weakV, boundV}
-use Rattle.number.proofs.NearLaws.{near-half}
+use Rattle.numbers.proofs.NearLaws.{near-half}
 use Rattle.mark.specs.declared.Vec3.{Vec3}
-use Rattle.mark.specs.Mark.{E, times, lengthOf}
-use Rattle.mark.specs.Permanent.{unit, units, legendre}
-use Rattle.mark.specs.Tide.{height}
+use Rattle.mark.specs.Mark.{lengthOf}
 use Rattle.mark.proofs.LengthLaws.{within-length}
-use Rattle.mark.proofs.TideLaws.{square-bound, height-bound}
+use Rattle.tides.specs.Direction.{E, times, unit, units, legendre}
+use Rattle.tides.specs.Tide.{height}
+use Rattle.tides.proofs.TideLaws.{square-bound, height-bound}
 use Rattle.laws.specs.Formulas.{Vector, direction, metre, P2}
 use Rattle.laws.proofs.ErrorTables.{HeightErrors}
 

@@ -3,38 +3,33 @@
 use mathlib.Core.Path.{_≡_, refl, sym, _∙_, ap, ap₂}
 use mathlib.Core.List.{List, [], _∷_}
 use lib.IntN.{ℤ, _+ℤ_}
-use Rattle.mark.specs.Frame.{frameB}
-use Rattle.mark.specs.Bodies.{moonOf, sunOf}
-use Rattle.mark.specs.Tide.{plus, tide}
+use Rattle.mark.specs.Mark.{plus, minus, scaled}
+use Rattle.frames.specs.Frame.{frameB, frameAt}
+use Rattle.tides.specs.Bodies.{moonOf, sunOf}
+use Rattle.tides.specs.Tide.{tide}
 use Rattle.card.specs.declared.Card.{Card}
-use Rattle.card.specs.Checks.{minus, scaled}
-use Rattle.card.specs.Calls.{Call, move, frame, meanOn, meanOff, solidOn, solidOff, frameAt, moved, reframed, next, callNumber, step}
-use Rattle.laws.specs.Lists.{tidesOf, run, net, Accepted, inForce, bare, steady}
+use Rattle.card.specs.Calls.{Call, move, frame, meanOn, meanOff, solidOn, solidOff, moved, reframed, next, callNumber, step}
+use Rattle.laws.specs.Lists.{tidesOf, tidesAfter, run, net, Accepted, inForce, bare, steady}
 use Rattle.laws.specs.Core.{Core, core, later}
 use Rattle.laws.specs.TwoCards.{Alike}
 use Rattle.laws.proofs.VectorLaws.{common, apart-later}
-use Rattle.laws.proofs.CallLaws.{accepted-card}
+use Rattle.laws.proofs.CallLaws.{accepted-card, tides-next}
 use Rattle.laws.proofs.ListTheorem.{core-run, net-total}
 
 -- ---- alike they stay
 
+next-tides : (c c′ : Card) (k : Call) → Alike c c′ → tidesOf (next c k) ≡ tidesOf (next c′ k)
+next-tides c c′ k s = tides-next c k ∙ (λ i. tidesAfter (s .mark i) (s .tides i) k) ∙ sym (tides-next c′ k)
+
 next-alike : (c c′ : Card) (k : Call) → Alike c c′ → Alike (next c k) (next c′ k)
 unfolding next moved reframed
 next-alike c c′ (move d) s =
-    record { mark = s .mark; frame = s .frame; epoch = ap (λ (e : ℤ). e +ℤ d) (s .epoch); tides = s .tides }
-next-alike c c′ (frame g) s = record { mark = s .mark; frame = refl; epoch = s .epoch; tides = s .tides }
-next-alike c c′ meanOn s =
-    record { mark = s .mark; frame = s .frame; epoch = s .epoch; tides = λ i. record { byte = 1; stored = s .tides i .stored } }
-next-alike c c′ meanOff s =
-    record { mark = s .mark; frame = s .frame; epoch = s .epoch; tides = λ i. record { byte = 0; stored = s .tides i .stored } }
-next-alike c c′ (solidOn a b) s =
-    record {
-      mark = s .mark;
-      frame = s .frame;
-      epoch = s .epoch;
-      tides = λ i. record { byte = 2; stored = tide (s .mark i) (moonOf a b) (sunOf a b) };
-    }
-next-alike c c′ solidOff s = record { mark = s .mark; frame = s .frame; epoch = s .epoch; tides = refl }
+    record { mark = s .mark; frame = s .frame; epoch = ap (λ (e : ℤ). e +ℤ d) (s .epoch); tides = next-tides c c′ (move d) s }
+next-alike c c′ (frame g) s = record { mark = s .mark; frame = refl; epoch = s .epoch; tides = next-tides c c′ (frame g) s }
+next-alike c c′ meanOn s = record { mark = s .mark; frame = s .frame; epoch = s .epoch; tides = next-tides c c′ meanOn s }
+next-alike c c′ meanOff s = record { mark = s .mark; frame = s .frame; epoch = s .epoch; tides = next-tides c c′ meanOff s }
+next-alike c c′ (solidOn a b) s = record { mark = s .mark; frame = s .frame; epoch = s .epoch; tides = next-tides c c′ (solidOn a b) s }
+next-alike c c′ solidOff s = record { mark = s .mark; frame = s .frame; epoch = s .epoch; tides = next-tides c c′ solidOff s }
 
 step-alike :
     (c c′ : Card) (k : Call)

@@ -11,11 +11,9 @@ use lib.IntN.{ℤ, pos, natAbs, _+ℤ_, _-ℤ_, _*ℤ_}
 use Rattle.algebra.proofs.IntLaws.{abs-+, abs-*}
 use Rattle.algebra.proofs.Ring.{by-ring, quote}
 use Rattle.mark.specs.declared.Vec3.{Vec3}
-use Rattle.mark.specs.Mark.{nowhere}
-use Rattle.mark.specs.Tide.{plus}
+use Rattle.mark.specs.Mark.{nowhere, plus, minus, scaled}
 use Rattle.mark.specs.Ranges.{Within}
 use Rattle.mark.proofs.LengthLaws.{vec≡}
-use Rattle.card.specs.Checks.{minus, scaled}
 
 -- what was taken away comes back
 pub back : (v w : Vec3) → plus (minus v w) w ≡ v

@@ -1,13 +1,11 @@
 -- The core of a card: what is left of it without its frame and its tides. A call keeps the core, or moves it by d.
-use Prim.Native.Nat.{ℕ}
 use mathlib.Core.List.{List}
+use Prim.Native.Nat.{ℕ}
 use lib.IntN.{ℤ, _+ℤ_}
 use Rattle.mark.specs.declared.Vec3.{Vec3}
-use Rattle.mark.specs.Frame.{frameB}
-use Rattle.mark.specs.Tide.{plus}
+use Rattle.mark.specs.Mark.{plus, scaled}
+use Rattle.frames.specs.Frame.{frameB, frameAt}
 use Rattle.card.specs.declared.Card.{Card}
-use Rattle.card.specs.Checks.{scaled}
-use Rattle.card.specs.Calls.{frameAt}
 use Rattle.laws.specs.Lists.{Tides, inForce, bare, steady}
 
 -- the position less the tides in force less A_f + B_f x epoch, and the velocity less B_f

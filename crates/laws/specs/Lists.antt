@@ -1,19 +1,19 @@
 -- Lists of calls on a card: the calls one by one, the net move, and the one formula for any list.
-use Prim.Native.Nat.{ℕ}
-use mathlib.Core.List.{List, [], _∷_}
-use mathlib.Core.Bool.{Bool, cond}
 use mathlib.Core.Path.{_≡_}
+use mathlib.Core.Bool.{Bool, cond}
+use mathlib.Core.List.{List, [], _∷_}
+use Prim.Native.Nat.{ℕ}
 use lib.Dec.{eqb}
 use lib.IntN.{ℤ, pos, _+ℤ_}
 use Rattle.mark.specs.declared.Vec3.{Vec3}
-use Rattle.mark.specs.Mark.{nowhere}
-use Rattle.mark.specs.Permanent.{permanent}
-use Rattle.mark.specs.Frame.{frameB}
-use Rattle.mark.specs.Bodies.{moonOf, sunOf}
-use Rattle.mark.specs.Tide.{plus, tide}
+use Rattle.mark.specs.Mark.{nowhere, plus, minus, scaled}
+use Rattle.frames.specs.Frame.{frameB, frameAt}
+use Rattle.tides.specs.Permanent.{permanent}
+use Rattle.tides.specs.Bodies.{moonOf, sunOf}
+use Rattle.tides.specs.Tide.{tide}
 use Rattle.card.specs.declared.Card.{Card}
-use Rattle.card.specs.Checks.{minus, scaled}
-use Rattle.card.specs.Calls.{Call, move, frame, meanOn, meanOff, solidOn, solidOff, frameAt, callNumber, step}
+use Rattle.card.specs.State.{stateOf, withState}
+use Rattle.card.specs.Calls.{Call, move, frame, meanOn, meanOff, solidOn, solidOff, callNumber, step}
 
 -- the calls one by one: a refused call hands on the card that it was handed
 unfoldable pub run : Card → List Call → Card
@@ -81,10 +81,10 @@ frameAfter f solidOff = f
 unfoldable pub tidesAfter : Vec3 → Tides → Call → Tides
 tidesAfter m t (move d) = t
 tidesAfter m t (frame g) = t
-tidesAfter m t meanOn = record { byte = 1; stored = t .stored }
-tidesAfter m t meanOff = record { byte = 0; stored = t .stored }
-tidesAfter m t (solidOn a b) = record { byte = 2; stored = tide m (moonOf a b) (sunOf a b) }
-tidesAfter m t solidOff = record { byte = 0; stored = nowhere }
+tidesAfter m t meanOn = record { byte = withState (t .byte) 1; stored = t .stored }
+tidesAfter m t meanOff = record { byte = withState (t .byte) 0; stored = t .stored }
+tidesAfter m t (solidOn a b) = record { byte = withState (t .byte) 2; stored = tide m (moonOf a b) (sunOf a b) }
+tidesAfter m t solidOff = record { byte = withState (t .byte) 0; stored = nowhere }
 
 -- the frame that the last accepted frame call gave, and f if there is none
 unfoldable pub frameFrom : ℕ → Card → List Call → ℕ
@@ -104,13 +104,13 @@ lastTides c ks = tidesFrom (tidesOf c) c ks
 
 -- ---- the formula
 
--- the permanent shift if mean-tide
+-- the permanent shift if the state is mean-tide
 unfoldable pub meanShift : ℕ → Vec3 → Vec3
-meanShift byte m = cond (eqb byte 1) (permanent m) nowhere
+meanShift state m = cond (eqb state 1) (permanent m) nowhere
 
 -- the tides in force, grains: the stored tide vector, and the permanent shift if mean-tide
 unfoldable pub inForce : Tides → Vec3 → Vec3
-inForce t m = plus (t .stored) (meanShift (t .byte) m)
+inForce t m = plus (t .stored) (meanShift (stateOf (t .byte)) m)
 
 -- from the first position take its stored tide vector, its permanent shift if mean-tide, and A_f + B_f x epoch
 unfoldable pub bare : Card → Vec3

@@ -2,17 +2,18 @@
 use mathlib.Core.Path.{_≡_}
 use lib.IntN.{pos, negℤ, _+ℤ_, _*ℤ_}
 use lib.Ieee.{ofBits, binary64}
-use Rattle.number.specs.Near.{near}
-use Rattle.number.specs.Whole.{wholeOf, some}
+use Rattle.numbers.specs.Near.{near}
+use Rattle.numbers.specs.Whole.{wholeOf, some}
 use Rattle.mark.specs.declared.Vec3.{Vec3}
 use Rattle.mark.specs.Mark.{vec, lengthOf, markNumber}
-use Rattle.mark.specs.Permanent.{units, permanent}
-use Rattle.mark.specs.Frame.{frameA, frameB, frameShift}
-use Rattle.mark.specs.Bodies.{moon}
-use Rattle.mark.specs.Tide.{partOf}
-use Rattle.card.specs.Field.{roundedBy}
+use Rattle.frames.specs.Frame.{frameA, frameB, frameShift}
+use Rattle.tides.specs.Direction.{units}
+use Rattle.tides.specs.Permanent.{permanent}
+use Rattle.tides.specs.Bodies.{moon}
+use Rattle.tides.specs.Tide.{partOf}
 use Rattle.card.specs.Calls.{move, moved, step}
 use Rattle.card.specs.Sample.{at}
+use Rattle.field.specs.Field.{roundedBy}
 
 -- the mark of case 2, metres
 abbrev pub equator : Vec3

@@ -1,9 +1,20 @@
-// Lists the cards of standard input, a line each: 88 bytes a card, a short last part refused.
+// Lists the cards of standard input, a line each; a short last part is refused.
 ghost use mathlib.Core.Path.{_≡_};
 ghost use Prim.Native.Nat.{_+_, _≤_, min};
 ghost use lib.ListN.{length};
+ghost use Rattle.codec.specs.Codec as C;
+ghost use Rattle.list.specs.Batch as B;
+use catalogue::LINE_MOST;
+use codec::CARD_LENGTH;
 use libc::STDIN_FILENO;
 use libc::STDOUT_FILENO;
+
+// So many parts a turn, the bytes that they have at most, and the bytes of their lines.
+const PARTS: usize = 512;
+
+const INPUT: usize = PARTS * CARD_LENGTH;
+
+const OUTPUT: usize = PARTS * LINE_MOST;
 
 // The loop has to end, and nothing says that the input does: it counts down from a number that no run uses up.
 fn main() {
@@ -13,10 +24,10 @@ fn main() {
     }
 }
 
-// Reads up to 512 parts and writes their lines; false where nothing was left or nothing more can be written.
+// Reads up to PARTS parts and writes their lines; false where nothing was left or nothing more can be written.
 fn list_some() -> bool {
-    let mut bytes = [0u8; 45056];
-    let mut text = [0u8; 61440];
+    let mut bytes = [0u8; INPUT];
+    let mut text = [0u8; OUTPUT];
     let got = io::read_full(STDIN_FILENO, &mut bytes);
     if got == 0 {
         return false;
@@ -25,11 +36,11 @@ fn list_some() -> bool {
     io::write_all(STDOUT_FILENO, &text[..filled])
 }
 
-// The lines of up to 512 parts, 120 bytes a line at most. Answers how many bytes they take.
+// The lines of up to PARTS parts. Answers how many bytes they take.
 fn fill(parts: &[u8], text: &mut [u8]) -> usize
-    requires { ⌜ length (now parts) ≤ 45056 ⌝ }
-    requires { ⌜ 61440 ≤ length (now text) ⌝ }
-    ensures { λ r. ⌜ r ≤ 61440 ⌝ }
+    requires { ⌜ length (now parts) ≤ B.inputMost ⌝ }
+    requires { ⌜ B.outputMost ≤ length (now text) ⌝ }
+    ensures { λ r. ⌜ r ≤ B.outputMost ⌝ }
 {
     let mut filled = 0usize;
     let mut at = 0usize;
@@ -41,13 +52,13 @@ fn fill(parts: &[u8], text: &mut [u8]) -> usize
     filled
 }
 
-// Where the part at a place ends: 88 bytes on, or at the end.
+// Where the part at a place ends: a card on, or at the end.
 fn part_end(parts: &[u8], at: usize) -> usize
     requires { ⌜ at ≤ length (now parts) ⌝ }
-    ensures { λ r. ⌜ r ≡ min (at + 88) (length (now (parts .entry))) ⌝ }
+    ensures { λ r. ⌜ r ≡ min (at + C.cardLength) (length (now (parts .entry))) ⌝ }
 {
-    if parts.len() - at < 88 {
+    if parts.len() - at < CARD_LENGTH {
         return parts.len();
     }
-    at + 88
+    at + CARD_LENGTH
 }

@@ -2,17 +2,17 @@
 -- not in the range, else the length or the sum.
 use mathlib.Core.Path.{_≡_, refl, sym}
 use mathlib.Core.Bool.{Bool, true, false, cond, _&&_}
-use Prim.Native.Nat.{ℕ, _+_, _*_, _≤_, _<_}
+use Prim.Native.Nat.{ℕ, _+_, _*_, _^_, _≤_, _<_}
 use native.Mathlib.Nat.{le-trans, mul-le-mul}
 use native.Mathlib.Omega.{arith}
-use borrow.Author.Tests.{leb-true, le-leb, lt-leb}
+use borrow.Author.Tests.{leb-true, le-leb, lt-leb, lt-ltb, le-ltb}
 use lib.Dec.{leb, lit<, lit≤}
 use lib.IntN.{ℤ, natAbs}
 use Rattle.algebra.proofs.BoolLaws.{and-left, and-right}
-use Rattle.number.specs.Root.{root}
-use Rattle.number.proofs.RootLaws.{root-is, root-same, root-least, root-below}
+use Rattle.numbers.specs.Root.{root}
+use Rattle.numbers.proofs.RootLaws.{root-is, root-same, root-least, root-below}
 use Rattle.mark.specs.declared.Vec3.{Vec3}
-use Rattle.mark.specs.Mark.{vec, squares, between, lengthOf, squaresWithin, lengthWithin}
+use Rattle.mark.specs.Mark.{vec, squares, between, lengthOf, squaresWithin, lengthWithin, squaresAsked}
 use Rattle.mark.specs.Ranges.{Within}
 
 -- ---- vectors
@@ -105,6 +105,23 @@ module _ (low high : ℕ) (v : Vec3) where
       let k : squares v < (high + 1) * (high + 1) = omega arith in
       let m : root (squares v) ≤ high = omega (arith, root-below (squares v) (high + 1) k) in
       rw (le-leb low (root (squares v)) (root-least (squares v) low l), le-leb (root (squares v)) high m)
+
+  -- a range the wrong way round holds nothing
+  pub no-range : high < low → squaresWithin low high v ≡ 0
+  unfolding squaresWithin
+  no-range h = rw (none (leb low (lengthOf v)) (leb (lengthOf v) high) refl refl)
+    where
+      none : (s t : Bool) → leb low (lengthOf v) ≡ s → leb (lengthOf v) high ≡ t → s && t ≡ false
+      none true true e f = absurd (omega (arith, leb-true low (lengthOf v) e, leb-true (lengthOf v) high f))
+      none true false e f = refl
+      none false t e f = refl
+
+  -- what is answered for any range
+  pub asked : high < 2 ^ 30 → squaresAsked low high v ≡ squaresWithin low high v
+  asked h = rw (lt-ltb high (2 ^ 30) h)
+
+  pub not-asked : 2 ^ 30 ≤ high → squaresAsked low high v ≡ 0
+  not-asked h = rw (le-ltb high (2 ^ 30) h)
 
   -- the root of what is within
   pub root-within : root (squaresWithin low high v) ≡ lengthWithin low high v

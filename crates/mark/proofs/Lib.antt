@@ -1,11 +1,4 @@
--- The laws of what is worked out from the mark.
-pub mod RefusalLaws
-pub mod StepLaws
+-- The laws of three numbers in a row and of the mark.
 pub mod LengthLaws
-pub mod DirectionLaws
+pub mod SizeLaws
 pub mod MarkLaws
-pub mod FrameLaws
-pub mod BodyLaws
-pub mod TideLaws
-pub mod SeriesLaws
-pub mod Constants

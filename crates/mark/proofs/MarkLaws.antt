@@ -1,16 +1,13 @@
 -- An accepted mark: its whole length is from 6,300,000 to 6,400,000 metres, and no component is longer.
-use mathlib.Core.Path.{_≡_, refl}
-use mathlib.Core.Bool.{true, false}
+use mathlib.Core.Path.{_≡_, refl, sym, _∙_}
+use mathlib.Core.Bool.{true, false, Bool}
+use Prim.Native.Nat.{ℕ, _≤_}
 use native.Mathlib.Omega.{arith}
-use lib.Dec.{lit≤}
+use Rattle.refusal.specs.Refusal.{first}
 use Rattle.mark.specs.declared.Vec3.{Vec3}
-use Rattle.mark.specs.declared.Shift.{Shift}
-use Rattle.mark.specs.Mark.{nowhere, lengthOf, marked, markNumber, squaresWithin, lengthWithin}
-use Rattle.mark.specs.Permanent.{units, permanent, permanentAnswer}
-use Rattle.mark.specs.Refusal.{first}
-use Rattle.mark.specs.Ranges.{Within, Direction}
+use Rattle.mark.specs.Mark.{lengthOf, marked, markNumber, squaresWithin, lengthWithin}
+use Rattle.mark.specs.Ranges.{Within}
 use Rattle.mark.proofs.LengthLaws.{widen, within-length, at-least, at-most, length-zero, length-some, length-is, squares-zero, squares-some}
-use Rattle.mark.proofs.DirectionLaws.{mark-direction}
 
 pub unmarked : (m : Vec3) → lengthWithin 6300000 6400000 m ≡ 0 → marked m ≡ false
 unfolding marked
@@ -39,15 +36,6 @@ unfolding marked
 accepted-within m e =
     widen (within-length m) (at-most 6300000 6400000 (lengthOf m) e)
 
--- as `units` asks for it
-pub accepted-wide : (m : Vec3) → marked m ≡ true → Within 1073741823 m
-accepted-wide m e = widen (accepted-within m e) (lit≤ tt)
-
--- its unit vector
-pub accepted-direction : (m : Vec3) → marked m ≡ true → Direction (units (lengthOf m) m)
-unfolding marked
-accepted-direction m e = mark-direction (lengthOf m) m refl (at-least 6300000 6400000 (lengthOf m) e)
-
 -- ---- the numbers
 
 pub number-marked : (m : Vec3) → marked m ≡ true → markNumber m ≡ 0
@@ -58,10 +46,26 @@ pub number-unmarked : (m : Vec3) → marked m ≡ false → markNumber m ≡ 6
 unfolding markNumber first
 number-unmarked m e = rw e
 
-pub permanent-accepted : (m : Vec3) (s : Vec3) → marked m ≡ true → s ≡ permanent m → _≡_ {A = Shift} (record { number = 0; shift = s }) (permanentAnswer m)
-unfolding permanentAnswer
-permanent-accepted m s e h = rw (number-marked m e, e, h)
+-- ---- the tide
 
-pub permanent-refused : (m : Vec3) → marked m ≡ false → _≡_ {A = Shift} (record { number = 6; shift = nowhere }) (permanentAnswer m)
-unfolding permanentAnswer
-permanent-refused m e = rw (number-unmarked m e, e)
+pub mark-long : (m : Vec3) → marked m ≡ true → 6300000 ≤ lengthOf m
+unfolding marked
+mark-long m e = at-least 6300000 6400000 (lengthOf m) e
+
+-- a mark by its number
+pub mark-accepted : (m : Vec3) (n : ℕ) → n ≡ markNumber m → n ≡ 0 → marked m ≡ true
+mark-accepted m n e z = go (marked m) refl
+  where
+    go : (t : Bool) → marked m ≡ t → t ≡ true
+    go true p = refl
+    go false p = absurd (six (sym z ∙ e ∙ number-unmarked m p))
+      where
+        six : _≡_ {A = ℕ} 0 6 → ⊥
+        six h = omega arith
+
+pub mark-refused : (m : Vec3) (n : ℕ) → n ≡ markNumber m → (n ≡ 0 → ⊥) → marked m ≡ false
+mark-refused m n e z = go (marked m) refl
+  where
+    go : (t : Bool) → marked m ≡ t → t ≡ false
+    go true p = absurd (z (e ∙ number-marked m p))
+    go false p = refl

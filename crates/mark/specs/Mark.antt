@@ -1,25 +1,16 @@
 -- The mark: x, y, z in whole metres. The root L of x² + y² + z² is from 6,300,000 to 6,400,000.
-use Prim.Native.Nat.{ℕ, _+_, _*_, _^_}
 use mathlib.Core.Bool.{Bool, not, cond, _&&_}
 use mathlib.Core.List.{[], _∷_}
-use lib.Dec.{leb}
+use Prim.Native.Nat.{ℕ, _+_, _*_, _^_}
+use lib.Dec.{leb, ltb}
 use lib.IntN.{ℤ, pos, natAbs, _+ℤ_, _-ℤ_, _*ℤ_}
-use Rattle.number.specs.Near.{near}
-use Rattle.number.specs.Root.{root}
+use Rattle.refusal.specs.Refusal.{first}
+use Rattle.numbers.specs.Root.{root}
 use Rattle.mark.specs.declared.Vec3.{Vec3}
-use Rattle.mark.specs.Refusal.{first}
 
 -- grains in a metre
 abbrev pub metre : ℕ
 metre = 1461000000
-
--- E, the unit of every fraction of one
-abbrev pub E : ℕ
-E = 2 ^ 30
-
--- near(x y/E): the product of two numbers of which one counts in units of 1/E
-unfoldable pub times : ℤ → ℤ → ℤ
-times x y = near (x *ℤ y) E
 
 abbrev pub vec : ℤ → ℤ → ℤ → Vec3
 vec a b c = record { x = a; y = b; z = c }
@@ -63,6 +54,18 @@ squaresWithin low high v = cond (between low high (lengthOf v)) (squares v) 0
 unfoldable pub lengthWithin : ℕ → ℕ → Vec3 → ℕ
 lengthWithin low high v = cond (between low high (lengthOf v)) (lengthOf v) 0
 
+-- the same for a mark's range, metres
+abbrev pub markLength : Vec3 → ℕ
+markLength m = lengthWithin 6300000 6400000 m
+
+-- what is answered for any range: one that goes to 2^30 or beyond is not asked for, and holds nothing
+abbrev pub squaresAsked : ℕ → ℕ → Vec3 → ℕ
+squaresAsked low high v = cond (ltb high (2 ^ 30)) (squaresWithin low high v) 0
+
 -- refusal 6: mark
 unfoldable pub markNumber : Vec3 → ℕ
 markNumber m = first ((6, not (marked m)) ∷ [])
+
+-- each of three numbers is at most n in size
+unfoldable pub sized : ℕ → Vec3 → Bool
+sized n v = leb (natAbs (v .x)) n && leb (natAbs (v .y)) n && leb (natAbs (v .z)) n

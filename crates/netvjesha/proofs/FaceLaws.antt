@@ -1,5 +1,5 @@
 -- What the face answers, from the output's length, the record that was read and the call's answer. An accepted call's card is always written.
-use mathlib.Core.Path.{_≡_, refl, sym, ap, _∙_, subst}
+use mathlib.Core.Path.{_≡_, refl, sym, ap, _∙_}
 use mathlib.Core.Bool.{true, not, cond}
 use mathlib.Core.List.{List, [], _∷_}
 use Prim.Native.Nat.{ℕ, zero, suc, _≤_, _<_}
@@ -7,23 +7,25 @@ use native.Mathlib.Omega.{arith}
 use borrow.Author.Tests.{eq-eqb, ne-eqb, le-leb, lt-leb}
 use lib.Dec.{eqb}
 use lib.ListN.{length}
-use Rattle.mark.specs.declared.BodyVector.{BodyVector}
-use Rattle.mark.specs.declared.Body.the-variants.{Moon, Sun}
-use Rattle.mark.specs.Refusal.{first}
-use Rattle.mark.specs.Bodies.{paired}
-use Rattle.mark.proofs.RefusalLaws.{onward}
+use Rattle.refusal.specs.Refusal.{first}
+use Rattle.refusal.specs.Outputs.{before, kept}
+use Rattle.refusal.proofs.RefusalLaws.{onward}
+use Rattle.refusal.proofs.OutputLaws.{one, too-short, long-enough, refused-before, passed-before, keeps, takes}
+use Rattle.tides.specs.declared.BodyVector.{BodyVector}
+use Rattle.tides.specs.declared.Body.the-variants.{Moon, Sun}
+use Rattle.tides.specs.Bodies.{paired}
 use Rattle.card.specs.declared.Card.{Card}
 use Rattle.card.specs.declared.Answer.{Answer}
+use Rattle.card.specs.State.{stateOf}
 use Rattle.card.specs.Checks.{checks, cardNumber}
-use Rattle.card.specs.Codec.{encode, decode, readNumber, readCard, zeroCard, writeNumber, written}
-use Rattle.card.specs.Field.{fieldOf, fieldNumber, openedOf, expandedOf, expandCard, exportNumber, exported}
-use Rattle.card.specs.Calls.{Call, solidOn, next, own, callNumber}
-use Rattle.card.specs.Bytes.{before, kept, bytesNumber, bytesOut}
+use Rattle.card.specs.Zero.{zeroCard}
+use Rattle.card.specs.Calls.{solidOn, next, own, callNumber}
 use Rattle.card.proofs.CheckLaws.{positive-checks}
-use Rattle.card.proofs.CodecLaws.{write-accepts}
-use Rattle.card.proofs.FieldLaws.{number-expanded}
-use Rattle.card.proofs.AnswerLaws.{put-out}
-use Rattle.card.proofs.BytesLaws.{one, too-short, long-enough, refused-before, passed-before, keeps, takes}
+use Rattle.codec.specs.Codec.{encode, decode, readNumber, readCard, writeNumber, written, cardLength}
+use Rattle.codec.proofs.CodecLaws.{write-accepts}
+use Rattle.codec.proofs.AnswerLaws.{put-out}
+use Rattle.field.specs.Field.{fieldOf, fieldNumber, openedOf, expandedOf, expandCard, exportNumber, exported, fieldLength}
+use Rattle.field.proofs.FieldLaws.{number-expanded}
 use Rattle.netvjesha.specs.Face.{bodyOf, solidCall, settledNumber, settledOut, exportedNumber, exportedOut, expandedNumber, expandedOut}
 
 -- ---- what a read gives
@@ -58,7 +60,7 @@ settle-written a out n e h p q = (
 abbrev answer : ℕ → Card → Card → Answer
 answer n new old = record { number = n; card = cond (eqb n 0) new old }
 
-settles : (n : ℕ) (new old : Card) (out : List ℕ) → length out ≡ 88 → (n ≡ 0 → cardNumber new ≡ 0)
+settles : (n : ℕ) (new old : Card) (out : List ℕ) → length out ≡ cardLength → (n ≡ 0 → cardNumber new ≡ 0)
     → (settledNumber (answer n new old) (length out) ≡ n) × (settledOut (answer n new old) out ≡ kept n (encode new) out)
 unfolding settledNumber settledOut before
 settles zero new old out l h =
@@ -71,12 +73,6 @@ settles (suc n) new old out l h = (
   where
     some : (m : ℕ) → suc m ≡ 0 → ⊥
     some m e = omega arith
-
--- ---- a call on a card's bytes, by another name
-
-pub same-call : (s out : List ℕ) (k q : Call) (n : ℕ) (w : List ℕ) → k ≡ q
-    → (n ≡ bytesNumber (length out) s k) × (w ≡ bytesOut out s k) → (n ≡ bytesNumber (length out) s q) × (w ≡ bytesOut out s q)
-same-call s out k q n w e h = subst (λ (x : Call). (n ≡ bytesNumber (length out) s x) × (w ≡ bytesOut out s x)) e h
 
 -- ---- labels
 
@@ -101,38 +97,38 @@ module _ (k l : ℕ) (v w : BodyVector) where
   unfolding solidCall
   both-labelled g h = rw (le-leb k 1 g, le-leb l 1 h)
 
-two-moons : (c : Card) (v : BodyVector) → cardNumber c ≡ 0 → callNumber c (solidOn (Moon v) (Moon v)) ≡ first ((12, not (eqb (c .tide) 0)) ∷ (17, true) ∷ [])
+two-moons : (c : Card) (v : BodyVector) → cardNumber c ≡ 0 → callNumber c (solidOn (Moon v) (Moon v)) ≡ first ((12, not (eqb (stateOf (c .tide)) 0)) ∷ (17, true) ∷ [])
 unfolding callNumber cardNumber own first paired
 two-moons c v h = onward (checks true c) (own c (next c (solidOn (Moon v) (Moon v))) (solidOn (Moon v) (Moon v))) (positive-checks true c) h
 
 -- a label that is neither Moon nor Sun, on an accepted card: 12 where a tide is on, else 17
-pub label-refused : (c : Card) (k l : ℕ) (v w : BodyVector) → cardNumber c ≡ 0 → 1 < k → callNumber c (solidCall k v l w) ≡ first ((12, not (eqb (c .tide) 0)) ∷ (17, true) ∷ [])
+pub label-refused : (c : Card) (k l : ℕ) (v w : BodyVector) → cardNumber c ≡ 0 → 1 < k → callNumber c (solidCall k v l w) ≡ first ((12, not (eqb (stateOf (c .tide)) 0)) ∷ (17, true) ∷ [])
 label-refused c k l v w h g = sym (ap (callNumber c) (first-other k l v w g)) ∙ two-moons c v h
 
-pub label-refused-2 : (c : Card) (k l : ℕ) (v w : BodyVector) → cardNumber c ≡ 0 → k ≤ 1 → 1 < l → callNumber c (solidCall k v l w) ≡ first ((12, not (eqb (c .tide) 0)) ∷ (17, true) ∷ [])
+pub label-refused-2 : (c : Card) (k l : ℕ) (v w : BodyVector) → cardNumber c ≡ 0 → k ≤ 1 → 1 < l → callNumber c (solidCall k v l w) ≡ first ((12, not (eqb (stateOf (c .tide)) 0)) ∷ (17, true) ∷ [])
 label-refused-2 c k l v w h g f = sym (ap (callNumber c) (second-other k l v w g f)) ∙ two-moons c v h
 
 -- ---- the field edition
 
 module _ (s out : List ℕ) where
-  pub export-short : (length out ≡ 48 → ⊥) → (1 ≡ exportedNumber (length out) s) × (out ≡ exportedOut out s)
+  pub export-short : (length out ≡ fieldLength → ⊥) → (1 ≡ exportedNumber (length out) s) × (out ≡ exportedOut out s)
   unfolding exportedNumber exportedOut
   export-short h =
-      let e = too-short 48 (length out) (before (readNumber s) (exportNumber (decode s) (length out))) h in
+      let e = too-short fieldLength (length out) (before (readNumber s) (exportNumber (decode s) (length out))) h in
       (e, keeps 1 (exportedNumber (length out) s) (fieldOf (decode s)) out e one)
 
-  pub export-unread : (a : Answer) → length out ≡ 48 → a ≡ readCard s → (a .number ≡ 0 → ⊥) → (a .number ≡ exportedNumber (length out) s) × (out ≡ exportedOut out s)
+  pub export-unread : (a : Answer) → length out ≡ fieldLength → a ≡ readCard s → (a .number ≡ 0 → ⊥) → (a .number ≡ exportedNumber (length out) s) × (out ≡ exportedOut out s)
   unfolding exportedNumber exportedOut
   export-unread a l r h =
       let n = number-read s a r in
-      let e = n ∙ refused-before (readNumber s) (exportNumber (decode s) (length out)) (λ z. h (n ∙ z)) ∙ long-enough 48 (length out) (before (readNumber s) (exportNumber (decode s) (length out))) l in
+      let e = n ∙ refused-before (readNumber s) (exportNumber (decode s) (length out)) (λ z. h (n ∙ z)) ∙ long-enough fieldLength (length out) (before (readNumber s) (exportNumber (decode s) (length out))) l in
       (e, keeps (a .number) (exportedNumber (length out) s) (fieldOf (decode s)) out e h)
 
-  export-is : length out ≡ 48 → readNumber s ≡ 0 → exportNumber (decode s) (length out) ≡ exportedNumber (length out) s
+  export-is : length out ≡ fieldLength → readNumber s ≡ 0 → exportNumber (decode s) (length out) ≡ exportedNumber (length out) s
   unfolding exportedNumber
-  export-is l h = passed-before (readNumber s) (exportNumber (decode s) (length out)) h ∙ long-enough 48 (length out) (before (readNumber s) (exportNumber (decode s) (length out))) l
+  export-is l h = passed-before (readNumber s) (exportNumber (decode s) (length out)) h ∙ long-enough fieldLength (length out) (before (readNumber s) (exportNumber (decode s) (length out))) l
 
-  pub export-called : (a : Answer) (n : ℕ) (e : List ℕ) → length out ≡ 48 → a ≡ readCard s → a .number ≡ 0
+  pub export-called : (a : Answer) (n : ℕ) (e : List ℕ) → length out ≡ fieldLength → a ≡ readCard s → a .number ≡ 0
       → n ≡ exportNumber (a .card) (length out) → e ≡ exported (a .card) out
       → (n ≡ exportedNumber (length out) s) × (e ≡ exportedOut out s)
   unfolding exported exportedOut
@@ -143,22 +139,22 @@ module _ (s out : List ℕ) where
         q ∙ ap (λ (c : Card). exported c out) d ∙ ap (λ (m : ℕ). kept m (fieldOf (decode s)) out) i,
       )
 
-  pub expand-short : (length out ≡ 88 → ⊥) → (1 ≡ expandedNumber (length out) s) × (out ≡ expandedOut out s)
+  pub expand-short : (length out ≡ cardLength → ⊥) → (1 ≡ expandedNumber (length out) s) × (out ≡ expandedOut out s)
   unfolding expandedNumber expandedOut
   expand-short h =
-      let e = too-short 88 (length out) (fieldNumber s) h in
+      let e = too-short cardLength (length out) (fieldNumber s) h in
       (e, keeps 1 (expandedNumber (length out) s) (encode (expandedOf (openedOf s))) out e one)
 
-  expand-is : length out ≡ 88 → fieldNumber s ≡ expandedNumber (length out) s
+  expand-is : length out ≡ cardLength → fieldNumber s ≡ expandedNumber (length out) s
   unfolding expandedNumber
-  expand-is l = long-enough 88 (length out) (fieldNumber s) l
+  expand-is l = long-enough cardLength (length out) (fieldNumber s) l
 
-  expand-settles : length out ≡ 88
+  expand-settles : length out ≡ cardLength
       → (settledNumber (expandCard s) (length out) ≡ fieldNumber s) × (settledOut (expandCard s) out ≡ kept (fieldNumber s) (encode (expandedOf (openedOf s))) out)
   unfolding expandCard
   expand-settles l = settles (fieldNumber s) (expandedOf (openedOf s)) zeroCard out l (number-expanded s)
 
-  pub expand-called : (b : Answer) (n : ℕ) (e : List ℕ) → length out ≡ 88 → b ≡ expandCard s → n ≡ settledNumber b (length out) → e ≡ settledOut b out
+  pub expand-called : (b : Answer) (n : ℕ) (e : List ℕ) → length out ≡ cardLength → b ≡ expandCard s → n ≡ settledNumber b (length out) → e ≡ settledOut b out
       → (n ≡ expandedNumber (length out) s) × (e ≡ expandedOut out s)
   unfolding expandedOut
   expand-called b n e l f p q =

@@ -1,3 +1,4 @@
 -- The laws of the C face.
 pub mod FaceLaws
 pub mod TripleLaws
+pub mod PackLaws

@@ -1,32 +1,27 @@
 -- Outputs of three elements, metres and the permanent shift, and the packed answer of a series.
-use mathlib.Core.Path.{_≡_, refl, sym, ap, _∙_, subst}
-use mathlib.Core.Bool.{Bool, true, false, cond}
+use mathlib.Core.Path.{_≡_, refl, sym, ap, _∙_}
+use mathlib.Core.Bool.{true}
 use mathlib.Core.List.{List, [], _∷_}
-use Prim.Native.Nat.{ℕ, zero, suc, _+_, _*_, _%_, _^_, _<_}
+use Prim.Native.Nat.{ℕ}
 use native.Mathlib.Omega.{arith}
-use lib.Dec.{eqb, lit<}
-use native.Mathlib.Nat.{mod-lt}
 use lib.ListN.{length, set}
 use lib.IntN.{ℤ}
 use lib.Ieee.{Float}
 use mir.Syntax.{w64}
 use mir.Val.{SFits, toZ, ofZ}
 use mir.Facts.{toZ-ofZ}
+use Rattle.refusal.proofs.OutputLaws.{one, too-short, long-enough, keeps, takes}
 use Rattle.mark.specs.declared.Vec3.{Vec3}
-use Rattle.mark.specs.declared.Shift.{Shift}
-use Rattle.mark.specs.declared.Rows.{Rows}
-use Rattle.mark.specs.Refusal.{first}
 use Rattle.mark.specs.Mark.{vec, marked, markNumber}
-use Rattle.mark.specs.Permanent.{permanent, permanentAnswer}
-use Rattle.mark.specs.Tide.{bodiesNumber}
-use Rattle.mark.specs.Series.{three, rowNumber, rowsFit, scan, seriesAnswer}
+use Rattle.mark.proofs.MarkLaws.{mark-accepted}
+use Rattle.tides.specs.declared.Shift.{Shift}
+use Rattle.tides.specs.Permanent.{permanent, permanentAnswer}
+use Rattle.tides.specs.Series.{three}
 use Rattle.card.specs.declared.Answer.{Answer}
-use Rattle.card.specs.declared.Metres.{Metres}
-use Rattle.card.specs.Codec.{decode, readNumber, readCard}
-use Rattle.card.specs.MetresOut.{metresOf}
-use Rattle.card.proofs.TableLaws.{mark-accepted}
-use Rattle.netvjesha.specs.Face.{threeMetres, metresNumber, metresOut, packed, permanentNumber, permanentOut}
-use Rattle.card.proofs.BytesLaws.{one, too-short, long-enough, keeps, takes}
+use Rattle.codec.specs.Codec.{decode, readNumber, readCard}
+use Rattle.field.specs.declared.Metres.{Metres}
+use Rattle.field.specs.MetresOut.{metresOf}
+use Rattle.netvjesha.specs.Face.{threeMetres, metresNumber, metresOut, permanentNumber, permanentOut}
 use Rattle.netvjesha.proofs.FaceLaws.{number-read, card-read}
 
 -- three numbers that fit 64 bits come back as they went in
@@ -110,46 +105,3 @@ module _ (m : Vec3) (out : List ℤ) where
   permanent-called s x y z l r h f g i =
       let e : 0 ≡ permanentNumber (length out) m = sym h ∙ number-is s r ∙ permanent-is l in
       (e, three-set out x y z l ∙ same-three f g i ∙ ap three (shift-is s r h) ∙ takes 0 (permanentNumber (length out) m) (three (permanent m)) out e refl)
-
--- ---- a series' number is below 256
-
-two-small : (a b : Bool) → first ((10, a) ∷ (11, b) ∷ []) < 256
-unfolding first
-two-small true b = omega arith
-two-small false true = omega arith
-two-small false false = omega arith
-
-row-small : (b : List Float) (i : ℕ) → rowNumber b i < 256
-unfolding rowNumber bodiesNumber
-row-small b i = two-small _ _
-
-scan-small : (b : List Float) (i k : ℕ) → scan b i k .number < 256
-unfolding scan
-scan-small b i zero = omega arith
-scan-small b i (suc k) = go (eqb (rowNumber b i) 0) (scan-small b (i + 1) k)
-  where
-    go : (t : Bool) → scan b (i + 1) k .number < 256 → cond t (scan b (i + 1) k) (record { number = rowNumber b i; row = i }) .number < 256
-    go true h = h
-    go false h = row-small b i
-
-pub series-small : (m : Vec3) (b : List Float) (n : ℕ) → seriesAnswer m b n .number < 256
-unfolding seriesAnswer
-series-small m b n = go (marked m) (rowsFit (length b) n)
-  where
-    go : (t u : Bool) → cond t (cond u (scan b 0 (Prim.Native.Nat._/_ n 3)) (record { number = 16; row = 0 })) (record { number = 6; row = 0 }) .number < 256
-    go true true = scan-small b 0 (Prim.Native.Nat._/_ n 3)
-    go true false = omega arith
-    go false u = omega arith
-
--- ---- packed
-
-pub pack-is : (r : Rows) → r .number + 256 * (r .row % 72057594037927936) ≡ packed r
-unfolding packed
-pack-is r = refl
-
-small-sum : (n k : ℕ) → n < 256 → k < 72057594037927936 → n + 256 * k < 2 ^ 64
-small-sum n k h i = omega arith
-
-pub pack-small : (m : Vec3) (b : List Float) (n : ℕ) (r : Rows) → r ≡ seriesAnswer m b n → r .number + 256 * (r .row % 72057594037927936) < 2 ^ 64
-pack-small m b n r e =
-    small-sum (r .number) (r .row % 72057594037927936) (subst (λ (x : Rows). x .number < 256) (sym e) (series-small m b n)) (mod-lt (r .row) (lit< tt))

@@ -1,27 +1,28 @@
 -- The C face beside the calls on a card's bytes: labels, the field edition, metres, the permanent shift, the series. The output's length comes
 -- first (1), then the record's own checks. A refused call leaves the output as it was.
-use Prim.Native.Nat.{ℕ, _+_, _*_, _%_, _^_}
-use mathlib.Core.List.{List, [], _∷_}
 use mathlib.Core.Bool.{cond}
+use mathlib.Core.List.{List, [], _∷_}
+use Prim.Native.Nat.{ℕ, _+_, _*_, _%_, _^_}
 use lib.Dec.{eqb, leb}
 use lib.ListN.{length}
 use lib.IntN.{ℤ}
 use lib.Ieee.{Float}
+use Rattle.refusal.specs.Outputs.{before, roomy, kept}
 use Rattle.mark.specs.declared.Vec3.{Vec3}
-use Rattle.mark.specs.declared.Rows.{Rows}
-use Rattle.mark.specs.declared.BodyVector.{BodyVector}
-use Rattle.mark.specs.declared.Body.{Body}
-use Rattle.mark.specs.declared.Body.the-variants.{Moon, Sun}
 use Rattle.mark.specs.Mark.{markNumber}
-use Rattle.mark.specs.Permanent.{permanent}
-use Rattle.mark.specs.Series.{three}
+use Rattle.tides.specs.declared.Rows.{Rows}
+use Rattle.tides.specs.declared.BodyVector.{BodyVector}
+use Rattle.tides.specs.declared.Body.{Body}
+use Rattle.tides.specs.declared.Body.the-variants.{Moon, Sun}
+use Rattle.tides.specs.Permanent.{permanent}
+use Rattle.tides.specs.Series.{three}
 use Rattle.card.specs.declared.Answer.{Answer}
-use Rattle.card.specs.declared.Metres.{Metres}
-use Rattle.card.specs.Codec.{cardLength, encode, decode, readNumber, writeNumber, written}
-use Rattle.card.specs.Field.{fieldLength, fieldOf, exportNumber, fieldNumber, openedOf, expandedOf}
 use Rattle.card.specs.Calls.{Call, solidOn}
-use Rattle.card.specs.Bytes.{before, roomy, kept}
-use Rattle.card.specs.MetresOut.{metresOf}
+use Rattle.codec.specs.Codec.{cardLength, encode, decode, readNumber, writeNumber, written}
+use Rattle.field.specs.declared.Metres.{Metres}
+use Rattle.field.specs.Field.{fieldLength, fieldOf, exportNumber, fieldNumber, openedOf, expandedOf}
+use Rattle.field.specs.MetresOut.{metresOf}
+use Rattle.catalogue.specs.Whole.{checkAnswer}
 
 -- ---- labels
 
@@ -77,6 +78,15 @@ permanentNumber room m = roomy 3 room (markNumber m)
 unfoldable pub permanentOut : List ℤ → Vec3 → List ℤ
 permanentOut out m = kept (permanentNumber (length out) m) (three (permanent m)) out
 
--- ---- the series: the number, and from bit 8 on the rows or the bad row. No memory holds 2^56 rows.
-unfoldable pub packed : Rows → ℕ
-packed r = r .number + 256 * (r .row % 2 ^ 56)
+-- ---- a number and a place in one: the number, and from bit 8 on the place. No memory holds 2^56 rows or cards.
+
+unfoldable pub packed : ℕ → ℕ → ℕ
+packed number place = number + 256 * (place % 2 ^ 56)
+
+-- a series: the rows, or the bad row
+abbrev pub packedRows : Rows → ℕ
+packedRows r = packed (r .number) (r .row)
+
+-- a whole catalogue: the cards, or the bad card
+unfoldable pub checkedCatalogue : List ℕ → ℕ
+checkedCatalogue s = packed (checkAnswer s .number) (checkAnswer s .place)

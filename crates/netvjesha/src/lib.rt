@@ -1,19 +1,22 @@
 // The C face: cards as bytes, refusals as numbers. An output's length comes first (1), then the record's own checks (1 to 9), then the
 // call's. A refused call writes nothing. include/netvjesha.h declares these functions.
 ghost use mathlib.Core.Path.{_≡_};
+ghost use Prim.Native.Nat.{_<_};
 ghost use lib.ListN.{length};
 ghost use Rattle.mark.specs.Mark as M;
-ghost use Rattle.mark.specs.Series as S;
-ghost use Rattle.card.specs.Codec as C;
+ghost use Rattle.tides.specs.Series as S;
 ghost use Rattle.card.specs.Calls as L;
-ghost use Rattle.card.specs.Bytes as B;
+ghost use Rattle.codec.specs.Codec as C;
+ghost use Rattle.codec.specs.Bytes as B;
 ghost use Rattle.catalogue.specs.Lookup as K;
 ghost use Rattle.netvjesha.specs.Face as F;
 use card::Answer;
-use card::Call;
-use mark::Body;
-use mark::BodyVector;
+use codec::CARD_LENGTH;
+use codec::bytes;
+use field::FIELD_LENGTH;
 use mark::Vec3;
+use tides::Body;
+use tides::BodyVector;
 
 // Writes the card of an accepted answer. A refused one writes nothing.
 fn settle(answer: Answer, out: &mut [u8]) -> u32
@@ -23,7 +26,7 @@ fn settle(answer: Answer, out: &mut [u8]) -> u32
     if answer.number != 0 {
         return answer.number;
     }
-    card::write(answer.card, out)
+    codec::write(answer.card, out)
 }
 
 // 1 a Sun, any other a Moon.
@@ -37,77 +40,72 @@ fn body(label: u8, v: BodyVector) -> Body
     }
 }
 
-// Solid tide on by labels. Two Moons stand for a label that is neither, since they are refused alike.
-fn solid(k: u8, v: BodyVector, l: u8, w: BodyVector) -> Call
-    ensures { λ r. ⌜ B.callOf r ≡ F.solidCall k v l w ⌝ }
+// A number below 256 and a place in one: number + 256 x place, exact below 2^56 places.
+fn packed(number: u32, place: usize) -> u64
+    requires { ⌜ number < 256 ⌝ }
+    ensures { λ r. ⌜ r ≡ F.packed number place ⌝ }
 {
-    if 1 < k {
-        return Call::SolidOn(Body::Moon(v), Body::Moon(v));
-    }
-    if 1 < l {
-        return Call::SolidOn(Body::Moon(v), Body::Moon(v));
-    }
-    Call::SolidOn(body(k, v), body(l, w))
+    number as u64 + 256 * (place as u64 % 72057594037927936)
 }
 
 // The number of a card's bytes: 1 to 9, or 0.
 #[no_mangle]
-pub extern "C" fn nv_check(card: &[u8]) -> u32
-    ensures { λ r. ⌜ r ≡ C.readNumber (now (card .entry)) ⌝ }
+pub extern "C" fn nv_check(s: &[u8]) -> u32
+    ensures { λ r. ⌜ r ≡ C.readNumber (now (s .entry)) ⌝ }
 {
-    let a = card::read(card);
-    a.number
+    codec::check(s)
 }
 
 // Moves a card by d quarter-days.
 #[no_mangle]
-pub extern "C" fn nv_move(card: &[u8], d: i64, out: &mut [u8]) -> u32
-    ensures { λ r. ⌜ r ≡ B.bytesNumber (length (now (out .entry))) (now (card .entry)) (L.move d) ⌝ }
-    ensures { λ r. ⌜ now (out .exit) ≡ B.bytesOut (now (out .entry)) (now (card .entry)) (L.move d) ⌝ }
+pub extern "C" fn nv_move(s: &[u8], d: i64, out: &mut [u8]) -> u32
+    ensures { λ r. ⌜ r ≡ B.bytesNumber (length (now (out .entry))) (now (s .entry)) (L.move d) ⌝ }
+    ensures { λ r. ⌜ now (out .exit) ≡ B.bytesOut (now (out .entry)) (now (s .entry)) (L.move d) ⌝ }
 {
-    card::call_bytes(card, Call::Move(d), out)
+    bytes::move_by(s, d, out)
 }
 
 // Shifts a card to a frame: 0 ITRF2008, 1 ITRF2005, 2 ITRF2000.
 #[no_mangle]
-pub extern "C" fn nv_frame(card: &[u8], frame: u8, out: &mut [u8]) -> u32
-    ensures { λ r. ⌜ r ≡ B.bytesNumber (length (now (out .entry))) (now (card .entry)) (L.frame frame) ⌝ }
-    ensures { λ r. ⌜ now (out .exit) ≡ B.bytesOut (now (out .entry)) (now (card .entry)) (L.frame frame) ⌝ }
+pub extern "C" fn nv_frame(s: &[u8], frame: u8, out: &mut [u8]) -> u32
+    ensures { λ r. ⌜ r ≡ B.bytesNumber (length (now (out .entry))) (now (s .entry)) (L.frame frame) ⌝ }
+    ensures { λ r. ⌜ now (out .exit) ≡ B.bytesOut (now (out .entry)) (now (s .entry)) (L.frame frame) ⌝ }
 {
-    card::call_bytes(card, Call::Frame(frame), out)
+    bytes::to_frame(s, frame, out)
 }
 
 // Adds the permanent shift: tide-free to mean-tide.
 #[no_mangle]
-pub extern "C" fn nv_mean_on(card: &[u8], out: &mut [u8]) -> u32
-    ensures { λ r. ⌜ r ≡ B.bytesNumber (length (now (out .entry))) (now (card .entry)) L.meanOn ⌝ }
-    ensures { λ r. ⌜ now (out .exit) ≡ B.bytesOut (now (out .entry)) (now (card .entry)) L.meanOn ⌝ }
+pub extern "C" fn nv_mean_on(s: &[u8], out: &mut [u8]) -> u32
+    ensures { λ r. ⌜ r ≡ B.bytesNumber (length (now (out .entry))) (now (s .entry)) L.meanOn ⌝ }
+    ensures { λ r. ⌜ now (out .exit) ≡ B.bytesOut (now (out .entry)) (now (s .entry)) L.meanOn ⌝ }
 {
-    card::call_bytes(card, Call::MeanOn, out)
+    bytes::mean_on(s, out)
 }
 
 // Takes the permanent shift away: mean-tide to tide-free.
 #[no_mangle]
-pub extern "C" fn nv_mean_off(card: &[u8], out: &mut [u8]) -> u32
-    ensures { λ r. ⌜ r ≡ B.bytesNumber (length (now (out .entry))) (now (card .entry)) L.meanOff ⌝ }
-    ensures { λ r. ⌜ now (out .exit) ≡ B.bytesOut (now (out .entry)) (now (card .entry)) L.meanOff ⌝ }
+pub extern "C" fn nv_mean_off(s: &[u8], out: &mut [u8]) -> u32
+    ensures { λ r. ⌜ r ≡ B.bytesNumber (length (now (out .entry))) (now (s .entry)) L.meanOff ⌝ }
+    ensures { λ r. ⌜ now (out .exit) ≡ B.bytesOut (now (out .entry)) (now (s .entry)) L.meanOff ⌝ }
 {
-    card::call_bytes(card, Call::MeanOff, out)
+    bytes::mean_off(s, out)
 }
 
 // Takes the stored solid tide away.
 #[no_mangle]
-pub extern "C" fn nv_solid_off(card: &[u8], out: &mut [u8]) -> u32
-    ensures { λ r. ⌜ r ≡ B.bytesNumber (length (now (out .entry))) (now (card .entry)) L.solidOff ⌝ }
-    ensures { λ r. ⌜ now (out .exit) ≡ B.bytesOut (now (out .entry)) (now (card .entry)) L.solidOff ⌝ }
+pub extern "C" fn nv_solid_off(s: &[u8], out: &mut [u8]) -> u32
+    ensures { λ r. ⌜ r ≡ B.bytesNumber (length (now (out .entry))) (now (s .entry)) L.solidOff ⌝ }
+    ensures { λ r. ⌜ now (out .exit) ≡ B.bytesOut (now (out .entry)) (now (s .entry)) L.solidOff ⌝ }
 {
-    card::call_bytes(card, Call::SolidOff, out)
+    bytes::solid_off(s, out)
 }
 
-// Adds the solid tide of a Moon (label 0, metres) and a Sun (label 1, kilometres), in either order, and stores it.
+// Adds the solid tide of a Moon (label 0, metres) and a Sun (label 1, kilometres), in either order, and stores it. Two Moons stand for a label
+// that is neither, since they are refused alike.
 #[no_mangle]
 pub extern "C" fn nv_solid_on(
-    card: &[u8],
+    s: &[u8],
     la: u8,
     ax: f64,
     ay: f64,
@@ -118,8 +116,8 @@ pub extern "C" fn nv_solid_on(
     bz: f64,
     out: &mut [u8],
 ) -> u32
-    ensures { λ r. ⌜ r ≡ B.bytesNumber (length (now (out .entry))) (now (card .entry)) (F.solidCall la (F.bodyVector ax ay az) lb (F.bodyVector bx by bz)) ⌝ }
-    ensures { λ r. ⌜ now (out .exit) ≡ B.bytesOut (now (out .entry)) (now (card .entry)) (F.solidCall la (F.bodyVector ax ay az) lb (F.bodyVector bx by bz)) ⌝ }
+    ensures { λ r. ⌜ r ≡ B.bytesNumber (length (now (out .entry))) (now (s .entry)) (F.solidCall la (F.bodyVector ax ay az) lb (F.bodyVector bx by bz)) ⌝ }
+    ensures { λ r. ⌜ now (out .exit) ≡ B.bytesOut (now (out .entry)) (now (s .entry)) (F.solidCall la (F.bodyVector ax ay az) lb (F.bodyVector bx by bz)) ⌝ }
 {
     let v = BodyVector {
         x: ax,
@@ -131,52 +129,58 @@ pub extern "C" fn nv_solid_on(
         y: by,
         z: bz,
     };
-    card::call_bytes(card, solid(la, v, lb, w), out)
+    if 1 < la {
+        return bytes::solid_on(s, Body::Moon(v), Body::Moon(v), out);
+    }
+    if 1 < lb {
+        return bytes::solid_on(s, Body::Moon(v), Body::Moon(v), out);
+    }
+    bytes::solid_on(s, body(la, v), body(lb, w), out)
 }
 
 // Writes the field edition of a card, 48 bytes.
 #[no_mangle]
-pub extern "C" fn nv_export(card: &[u8], field: &mut [u8]) -> u32
-    ensures { λ r. ⌜ r ≡ F.exportedNumber (length (now (field .entry))) (now (card .entry)) ⌝ }
-    ensures { λ r. ⌜ now (field .exit) ≡ F.exportedOut (now (field .entry)) (now (card .entry)) ⌝ }
+pub extern "C" fn nv_export(s: &[u8], edition: &mut [u8]) -> u32
+    ensures { λ r. ⌜ r ≡ F.exportedNumber (length (now (edition .entry))) (now (s .entry)) ⌝ }
+    ensures { λ r. ⌜ now (edition .exit) ≡ F.exportedOut (now (edition .entry)) (now (s .entry)) ⌝ }
 {
-    if field.len() != 48 {
+    if edition.len() != FIELD_LENGTH {
         return 1;
     }
-    let a = card::read(card);
+    let a = codec::read(s);
     if a.number != 0 {
         return a.number;
     }
-    card::export(a.card, field)
+    field::export(a.card, edition)
 }
 
 // Expands a field record, 48 bytes, into a card.
 #[no_mangle]
-pub extern "C" fn nv_expand(field: &[u8], out: &mut [u8]) -> u32
-    ensures { λ r. ⌜ r ≡ F.expandedNumber (length (now (out .entry))) (now (field .entry)) ⌝ }
-    ensures { λ r. ⌜ now (out .exit) ≡ F.expandedOut (now (out .entry)) (now (field .entry)) ⌝ }
+pub extern "C" fn nv_expand(edition: &[u8], out: &mut [u8]) -> u32
+    ensures { λ r. ⌜ r ≡ F.expandedNumber (length (now (out .entry))) (now (edition .entry)) ⌝ }
+    ensures { λ r. ⌜ now (out .exit) ≡ F.expandedOut (now (out .entry)) (now (edition .entry)) ⌝ }
 {
-    if out.len() != 88 {
+    if out.len() != CARD_LENGTH {
         return 1;
     }
-    settle(card::expand(field), out)
+    settle(field::expand(edition), out)
 }
 
 // Where a card stands from its mark: three doubles, metres.
 #[no_mangle]
-pub extern "C" fn nv_metres(card: &[u8], out: &mut [f64]) -> u32
-    ensures { λ r. ⌜ r ≡ F.metresNumber (length (now (out .entry))) (now (card .entry)) ⌝ }
-    ensures { λ r. ⌜ now (out .exit) ≡ F.metresOut (now (out .entry)) (now (card .entry)) ⌝ }
+pub extern "C" fn nv_metres(s: &[u8], out: &mut [f64]) -> u32
+    ensures { λ r. ⌜ r ≡ F.metresNumber (length (now (out .entry))) (now (s .entry)) ⌝ }
+    ensures { λ r. ⌜ now (out .exit) ≡ F.metresOut (now (out .entry)) (now (s .entry)) ⌝ }
 {
     if out.len() != 3 {
         return 1;
     }
-    let a = card::read(card);
+    let a = codec::read(s);
     if a.number != 0 {
         return a.number;
     }
     let c = a.card;
-    let m = c.metres_out();
+    let m = field::metres_out(c);
     let x = m.x;
     let y = m.y;
     let z = m.z;
@@ -195,7 +199,7 @@ pub extern "C" fn nv_permanent(x: i64, y: i64, z: i64, out: &mut [i64]) -> u32
     if out.len() != 3 {
         return 1;
     }
-    let s = mark::permanent(Vec3 { x, y, z });
+    let s = tides::permanent(Vec3 { x, y, z });
     if s.number != 0 {
         return s.number;
     }
@@ -212,27 +216,35 @@ pub extern "C" fn nv_permanent(x: i64, y: i64, z: i64, out: &mut [i64]) -> u32
 // The solid tides of many rows at a mark: six doubles to a row in, three numbers to a row out. Number + 256 x (rows, or the bad row).
 #[no_mangle]
 pub extern "C" fn nv_series(x: i64, y: i64, z: i64, bodies: &[f64], out: &mut [i64]) -> u64
-    ensures { λ r. ⌜ r ≡ F.packed (S.seriesAnswer (M.vec x y z) (now (bodies .entry)) (length (now (out .entry)))) ⌝ }
+    ensures { λ r. ⌜ r ≡ F.packedRows (S.seriesAnswer (M.vec x y z) (now (bodies .entry)) (length (now (out .entry)))) ⌝ }
     ensures { λ r. ⌜ now (out .exit) ≡ S.seriesNumbers (M.vec x y z) (now (bodies .entry)) (now (out .entry)) ⌝ }
 {
-    let s = mark::series(Vec3 { x, y, z }, bodies, out);
-    let number = s.number;
-    let row = s.row;
-    number as u64 + 256 * (row as u64 % 72057594037927936)
+    let done = tides::series(Vec3 { x, y, z }, bodies, out);
+    packed(done.number, done.row)
+}
+
+// The check of a whole catalogue: number + 256 x place, the place of the first bad card counted in cards from 0. 14 comes with place 0;
+// accepted, the place is the number of cards.
+#[no_mangle]
+pub extern "C" fn nv_check_catalogue(records: &[u8]) -> u64
+    ensures { λ r. ⌜ r ≡ F.checkedCatalogue (now (records .entry)) ⌝ }
+{
+    let checked = catalogue::check(records);
+    packed(checked.number, checked.place)
 }
 
 // Where the first record with the key's nine bytes begins in a catalogue, in bytes. Refused, the catalogue's length.
 #[no_mangle]
-pub extern "C" fn nv_find(catalogue: &[u8], key: &[u8]) -> usize
-    ensures { λ r. ⌜ r ≡ K.findPlace (now (catalogue .entry)) (now (key .entry)) ⌝ }
+pub extern "C" fn nv_find(records: &[u8], key: &[u8]) -> usize
+    ensures { λ r. ⌜ r ≡ K.findPlace (now (records .entry)) (now (key .entry)) ⌝ }
 {
-    catalogue::find_place(catalogue, key)
+    catalogue::find_place(records, key)
 }
 
 // The number of that lookup: 2, then 14, then 15, and 0 when found.
 #[no_mangle]
-pub extern "C" fn nv_find_number(catalogue: &[u8], key: &[u8]) -> u32
-    ensures { λ r. ⌜ r ≡ K.findNumber (now (catalogue .entry)) (now (key .entry)) ⌝ }
+pub extern "C" fn nv_find_number(records: &[u8], key: &[u8]) -> u32
+    ensures { λ r. ⌜ r ≡ K.findNumber (now (records .entry)) (now (key .entry)) ⌝ }
 {
-    catalogue::find_number(catalogue, key)
+    catalogue::find_number(records, key)
 }

@@ -130,8 +130,8 @@ fn byte_at(s: &[u8], at: usize, i: usize) -> u8
     s[at + i]
 }
 
-// At most 8 bytes.
-fn width(n: usize) -> usize
+// The width that a number is read and written in: at most 8 bytes.
+pub fn width(n: usize) -> usize
     ensures { λ r. ⌜ r ≡ min n 8 ⌝ }
 {
     if n < 8 { n } else { 8 }

@@ -1,43 +1,51 @@
 // Kind 13: a card and the calls on it, each on the card that the one before handed back.
 use crate::records;
+use crate::shifts;
 use crate::text;
-use crate::tides;
 use card::Answer;
 use card::Card;
 
 pub fn answer(s: &[u8]) {
-    let mut card = records::raw_card(s);
+    let mut at = records::raw_card(s);
     let calls = text::from(s, 115);
     let n = calls.len() / 64;
     for i in 0..n {
-        let r = called(card, text::from(calls, 64 * i));
-        text::put_natural(r.number as u64);
-        text::put(b" ");
-        let next = r.card;
-        card = next;
+        at = after(at, text::from(calls, 64 * i));
     }
-    text::put_card(card);
+    text::put_card(at);
 }
 
-fn called(card: Card, s: &[u8]) -> Answer {
+// Makes the call, writes its number and gives the card that it hands back.
+fn after(c: Card, s: &[u8]) -> Card {
+    let r = called(c, s);
+    text::put_number(r.number);
+    r.card
+}
+
+fn called(c: Card, s: &[u8]) -> Answer {
     let code = text::byte_at(s, 0);
     if code == 1 {
-        return card.move_by(octets::signed_at(s, 1, 8));
+        return c.move_by(octets::signed_at(s, 1, 8));
     }
     if code == 2 {
-        return card.to_frame(text::byte_at(s, 1));
-    }
-    if code == 3 {
-        return card.mean_on();
-    }
-    if code == 4 {
-        return card.mean_off();
+        return c.to_frame(text::byte_at(s, 1));
     }
     if code == 5 {
-        return card.solid_on(
-            tides::body(text::from(s, 1)),
-            tides::body(text::from(s, 26)),
+        return c.solid_on(
+            shifts::body(text::from(s, 1)),
+            shifts::body(text::from(s, 26)),
         );
     }
-    card.solid_off()
+    switched(c, code)
+}
+
+// The calls that have a code alone.
+fn switched(c: Card, code: u8) -> Answer {
+    if code == 3 {
+        return c.mean_on();
+    }
+    if code == 4 {
+        return c.mean_off();
+    }
+    c.solid_off()
 }

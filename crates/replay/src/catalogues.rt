@@ -1,5 +1,6 @@
-// Kinds 14 to 16: lookup, the reader's steps, a line of the listing.
+// Kinds 14 to 17: lookup, the reader's steps, a line of the listing, a whole catalogue's check.
 use crate::text;
+use catalogue::LINE_MOST;
 use catalogue::Taken;
 
 pub fn answer(kind: u64, s: &[u8]) {
@@ -7,8 +8,10 @@ pub fn answer(kind: u64, s: &[u8]) {
         answer_lookup(s);
     } else if kind == 15 {
         answer_reader(s);
-    } else {
+    } else if kind == 16 {
         answer_line(s);
+    } else {
+        answer_check(s);
     }
 }
 
@@ -17,8 +20,7 @@ fn answer_lookup(s: &[u8]) {
     let rest = text::from(s, 4);
     let key = text::first(rest, n);
     let records = text::from(rest, n);
-    text::put_natural(catalogue::find_number(records, key) as u64);
-    text::put(b" ");
+    text::put_number(catalogue::find_number(records, key));
     text::put_run(catalogue::find(records, key));
 }
 
@@ -39,19 +41,24 @@ fn answer_reader(s: &[u8]) {
 
 fn put_taken(t: Taken) {
     if t.done {
-        text::put(b"done");
+        text::put(b"done ");
     } else {
-        text::put_natural(t.number as u64);
+        text::put_number(t.number);
     }
-    text::put(b" ");
     text::put_card(t.card);
 }
 
 // The line, without the line feed that ends it.
 fn answer_line(s: &[u8]) {
-    let mut space = [0u8; 120];
+    let mut space = [0u8; LINE_MOST];
     let n = catalogue::line(s, &mut space);
     if 0 < n {
         text::put(text::first(&space, n - 1));
     }
+}
+
+fn answer_check(s: &[u8]) {
+    let r = catalogue::check(s);
+    text::put_number(r.number);
+    text::put_natural(r.place as u64);
 }

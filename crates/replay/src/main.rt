@@ -3,10 +3,10 @@ use libc::STDIN_FILENO;
 
 mod calls;
 mod catalogues;
-mod numbers;
 mod records;
+mod rounding;
+mod shifts;
 mod text;
-mod tides;
 
 // The loop has to end, and nothing says that the input does: it counts down from a number that no run uses up.
 fn main() {
@@ -43,9 +43,9 @@ fn answer_in(kind: u64, space: &mut [u8]) {
 
 fn put_answer(kind: u64, payload: &[u8]) {
     if kind <= 3 {
-        numbers::answer(kind, payload);
+        rounding::answer(kind, payload);
     } else if kind <= 7 {
-        tides::answer(kind, payload);
+        shifts::answer(kind, payload);
     } else if kind <= 12 {
         records::answer(kind, payload);
     } else if kind == 13 {

@@ -5,49 +5,46 @@ use card::Card;
 
 pub fn answer(kind: u64, s: &[u8]) {
     if kind == 8 {
-        put_answer(card::read(s));
+        put_answer(codec::read(s));
     } else if kind == 9 {
         answer_buffer(s, false);
     } else if kind == 10 {
         answer_buffer(s, true);
     } else if kind == 11 {
-        put_answer(card::expand(s));
+        put_answer(field::expand(s));
     } else {
         answer_metres(s);
     }
 }
 
 fn put_answer(r: Answer) {
-    text::put_natural(r.number as u64);
-    text::put(b" ");
+    text::put_number(r.number);
     text::put_card(r.card);
 }
 
 // A card written into a lent buffer, as a card or as its field edition.
-fn answer_buffer(s: &[u8], field: bool) {
+fn answer_buffer(s: &[u8], edition: bool) {
     let mut space = [0xEEu8; 200];
     let n = text::at_most(octets::unsigned_at(s, 0, 4), 200);
-    put_written(raw_card(text::from(s, 4)), field, &mut space[..n]);
+    put_written(raw_card(text::from(s, 4)), edition, &mut space[..n]);
 }
 
-fn put_written(card: Card, field: bool, out: &mut [u8]) {
-    let number = written(card, field, out);
-    text::put_natural(number as u64);
-    text::put(b" ");
+fn put_written(c: Card, edition: bool, out: &mut [u8]) {
+    let number = written(c, edition, out);
+    text::put_number(number);
     text::put_run(out);
 }
 
-fn written(card: Card, field: bool, out: &mut [u8]) -> u32 {
-    if field {
-        return card::export(card, out);
+fn written(c: Card, edition: bool, out: &mut [u8]) -> u32 {
+    if edition {
+        return field::export(c, out);
     }
-    card::write(card, out)
+    codec::write(c, out)
 }
 
 fn answer_metres(s: &[u8]) {
-    let r = raw_card(s).metres_out();
-    text::put_natural(r.number as u64);
-    text::put(b" ");
+    let r = field::metres_out(raw_card(s));
+    text::put_number(r.number);
     text::put_double(r.x);
     text::put(b" ");
     text::put_double(r.y);

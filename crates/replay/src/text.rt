@@ -16,17 +16,26 @@ pub fn put_signed(z: i64) {
     if z < 0 {
         put(b"-");
     }
-    put_natural(number::magnitude(z));
+    put_natural(numbers::magnitude(z));
+}
+
+// A number with a space before it.
+pub fn put_next(z: i64) {
+    put(b" ");
+    put_signed(z);
+}
+
+// An answer's number, and a space.
+pub fn put_number(n: u32) {
+    put_natural(n as u64);
+    put(b" ");
 }
 
 // Three numbers, with a space before each.
 pub fn put_vector(v: Vec3) {
-    put(b" ");
-    put_signed(v.x);
-    put(b" ");
-    put_signed(v.y);
-    put(b" ");
-    put_signed(v.z);
+    put_next(v.x);
+    put_next(v.y);
+    put_next(v.z);
 }
 
 // The bytes as hex, and `-` where there are none.
@@ -56,12 +65,9 @@ pub fn put_double(x: f64) {
 pub fn put_card(c: Card) {
     let site = c.site;
     put_run(&site);
-    put(b" ");
-    put_natural(c.frame as u64);
-    put(b" ");
-    put_natural(c.tide as u64);
-    put(b" ");
-    put_signed(c.epoch);
+    put_next(c.frame as i64);
+    put_next(c.tide as i64);
+    put_next(c.epoch);
     put_vector(c.mark);
     put_vector(c.velocity);
     put_vector(c.position);

@@ -1,9 +1,10 @@
 -- `catalogue::find` meets its contract: the part that the scan names. Assumes nothing.
-use borrow.Author.Needs.{needs}
 use mathlib.Core.Path.{_≡_, sym, ap, _∙_}
 use Prim.Native.Nat.{ℕ, _+_, _-_, _≤_}
 use native.Mathlib.Omega.{arith}
+use borrow.Author.Needs.{needs}
 use lib.ListN.{length}
+use Rattle.codec.specs.Codec.{cardLength}
 use Rattle.catalogue.specs.Lookup.{findNumber, findPlace, placeOf}
 use Rattle.catalogue.proofs.LookupLaws.{number-of, place-of, place-refused, place-within, part-of, part-none}
 use Rattle.catalogue.proofs.find.Statement.{statement}
@@ -26,7 +27,7 @@ refused-at c =
     let a = c .before .before .before .before .before .args in
     place-is (c .before) ∙ place-refused (a .catalogue .now) (a .key .now) (λ z. c .if1 .taken (number-is (c .before) ∙ z))
 
-within : (c : tie.Else1) → c .before .before .scan .result .place + 88 ≤ length (c .before .before .before .before .before .args .catalogue .now)
+within : (c : tie.Else1) → c .before .before .scan .result .place + cardLength ≤ length (c .before .before .before .before .before .args .catalogue .now)
 within c =
     let a = c .before .before .before .before .before .args in
     let e = place-is (c .before) in
@@ -63,14 +64,5 @@ returns-2 c =
 pub find-spec : {M : Type 1} → statement M
 find-spec =
     tie.close
-    (tie.spec
-    (λ c κs. search needs)
-    sub-result
-    part-result-start
-    (λ c. search needs)
-    returns
-    add-end
-    (λ c. search needs)
-    (λ c. search needs)
-    part-result-end-2
-    returns-2)
+    (tie.spec (λ c κs. search needs) sub-result part-result-start (λ c. search needs) returns add-end (λ c. search needs) (λ c. search needs)
+    part-result-end-2 returns-2)

@@ -1,9 +1,9 @@
 -- `catalogue::line` meets its contract: the text of what was read. Assumes nothing.
 use mathlib.Core.Path.{ap, _∙_}
+use borrow.Author.Needs.{needs}
 use lib.ListN.{length}
 use Rattle.octets.specs.Octets.{splice}
 use Rattle.catalogue.proofs.LineLaws.{line-refused, line-taken}
-use borrow.Author.Needs.{needs}
 use Rattle.catalogue.proofs.line.Statement.{statement}
 use Rattle.catalogue.proofs.line.Tie as tie
 
@@ -26,11 +26,4 @@ returns-2 c =
 pub line-spec : {M : Type 1} → statement M
 line-spec =
     tie.close
-    (tie.spec
-    (λ c κs. search needs)
-    (λ c κs. search needs)
-    (λ c. search needs)
-    returns
-    (λ c κs. search needs)
-    (λ c. search needs)
-    returns-2)
+    (tie.spec (λ c κs. search needs) (λ c κs. search needs) (λ c. search needs) returns (λ c κs. search needs) (λ c. search needs) returns-2)

@@ -34,7 +34,6 @@ use denote.Signature.{Slot, plain, namedLft}
 use denote.Slice.{sliceVal, ShrSlice}
 use denote.Steps.{only, opens, closes, owned, peeks, heard, nothing}
 use denote.Struct.Declared.{Declared}
-use denote.Struct.Laws as LL
 use denote.Struct.Rest.{all-own, ownAt, rest, own-open, own-out, own-put}
 use denote.Struct.Steps.{spelt}
 use denote.Struct.Values.{Values}
@@ -48,15 +47,16 @@ use denote.Triple.Walked.{says, Stays, stay-ref, onExit, walkOf, goes-ref, Walks
 use Rattle.catalogue.specs.Reader.{takenAt}
 use Rattle.catalogue.specs.declared.Reader.{Reader}
 use Rattle.catalogue.specs.declared.Taken.{Taken}
+use Rattle.catalogue.proofs.take_at.Symbol.{name as #catalogue·take-at}
+use Rattle.catalogue.proofs.next.Key.{name as #catalogue·next}
+use denote.Struct.Laws as LL
 use Rattle.catalogue.proofs.Reader as T
 use Rattle.catalogue.proofs.Reader.Laws as T′
 use Rattle.catalogue.proofs.Taken as S
 use Rattle.catalogue.proofs.Taken.Laws as S′
 use Rattle.catalogue.proofs.take_at as take
 use Rattle.catalogue.proofs.take_at.Symbol as take-def
-use Rattle.catalogue.proofs.take_at.Symbol.{name as #catalogue·take-at}
 use Rattle.catalogue.proofs.take_at.Met as take-thm
-use Rattle.catalogue.proofs.next.Key.{name as #catalogue·next}
 use Rattle.catalogue.proofs.next as next
 use Rattle.catalogue.proofs.next.Statement as stated
 use Rattle.catalogue.proofs.next.Code as code

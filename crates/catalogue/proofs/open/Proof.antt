@@ -35,9 +35,9 @@ use denote.Triple.Table.{entered}
 use denote.Triple.Walked.{says, Stays, stay-none-slice, onExit, walkOf, goes-none-slice, Walks, ends-at, walked, walk-meets}
 use denote.Exit.{yes}
 use Rattle.catalogue.specs.declared.Reader.{Reader}
+use Rattle.catalogue.proofs.open.Key.{name as #catalogue·open}
 use Rattle.catalogue.proofs.Reader as T
 use Rattle.catalogue.proofs.Reader.Laws as T′
-use Rattle.catalogue.proofs.open.Key.{name as #catalogue·open}
 use Rattle.catalogue.proofs.open as opened
 use Rattle.catalogue.proofs.open.Statement as stated
 use Rattle.catalogue.proofs.open.Code as code

@@ -3,10 +3,10 @@ use mathlib.Core.Path.{_≡_, refl}
 use mathlib.Core.List.{List, [], _∷_}
 use Prim.Native.Nat.{ℕ}
 use native.Mathlib.Omega.{arith}
+use borrow.Author.Needs.{needs}
 use Rattle.octets.specs.Octets.{splice}
 use Rattle.catalogue.specs.Line.{natural, refusedWord}
 use Rattle.catalogue.proofs.LineLaws.{Put, put-more, put-one, put-as, length-natural, places-most, refused-text}
-use borrow.Author.Needs.{needs}
 use Rattle.catalogue.proofs.put_refused.Statement.{statement}
 use Rattle.catalogue.proofs.put_refused.Tie as tie
 
@@ -36,11 +36,4 @@ returns c =
 pub put-refused-spec : {M : Type 1} → statement M
 put-refused-spec =
     tie.close
-    (tie.spec
-    (λ c. search needs)
-    (λ c κs. search needs)
-    (λ c κs. search needs)
-    (λ c κs. search needs)
-    add-result
-    (λ c. search needs)
-    returns)
+    (tie.spec (λ c. search needs) (λ c κs. search needs) (λ c κs. search needs) (λ c κs. search needs) add-result (λ c. search needs) returns)

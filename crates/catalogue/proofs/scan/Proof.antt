@@ -9,6 +9,7 @@ use borrow.Author.Tests.{not-true, not-false}
 use lib.ListN.{length}
 use Rattle.card.specs.Checks.{siteShape}
 use Rattle.card.proofs.ValidLaws.{site-nine}
+use Rattle.codec.specs.Codec.{cardLength}
 use Rattle.catalogue.specs.Lookup.{firstFrom, firstPlace}
 use Rattle.catalogue.proofs.LookupLaws.{first-none, first-here, first-later, first-whole, found-0, found-2, found-14, found-15}
 use Rattle.catalogue.proofs.scan.Statement.{statement}
@@ -16,10 +17,10 @@ use Rattle.catalogue.proofs.scan.Tie as tie
 
 pub record Passed (s key : List ℕ) (at : ℕ) : Type 0 where
   pub shape : siteShape key ≡ true
-  pub whole : length s % 88 ≡ 0
-  pub steps : at % 88 ≡ 0
+  pub whole : length s % cardLength ≡ 0
+  pub steps : at % cardLength ≡ 0
   pub within : at ≤ length s
-  pub left : firstPlace s key ≡ firstFrom s key at ((length s - at) / 88)
+  pub left : firstPlace s key ≡ firstFrom s key at ((length s - at) / cardLength)
 
 abbrev Inv-loop : tie.InvT-loop
 Inv-loop s key at₀ at = Passed s key at
@@ -62,8 +63,8 @@ returns-3 c =
     let i = l .loop .inv in
     found-0 (a .catalogue .now) (a .key .now) (l .loop .at) (i .shape) (i .whole)
     (i .left
-    ∙ first-here (a .catalogue .now) (a .key .now) (l .loop .at) ((length (a .catalogue .now) - l .loop .at) / 88)
-    ((length (a .catalogue .now) - (l .loop .at + 88)) / 88) (omega (arith, i .whole, i .steps, i .within, c .before .before .loop-test .taken))
+    ∙ first-here (a .catalogue .now) (a .key .now) (l .loop .at) ((length (a .catalogue .now) - l .loop .at) / cardLength)
+    ((length (a .catalogue .now) - (l .loop .at + cardLength)) / cardLength) (omega (arith, i .whole, i .steps, i .within, c .before .before .loop-test .taken))
     (sym (c .before .has-site .ensures) ∙ c .if3 .taken))
     (c .before .before .loop-test .taken)
 
@@ -80,8 +81,8 @@ loop-again c =
       within = omega (arith, i .whole, i .steps, i .within, h);
       left =
           i .left
-          ∙ first-later (a .catalogue .now) (a .key .now) (l .loop .at) ((length (a .catalogue .now) - l .loop .at) / 88)
-          ((length (a .catalogue .now) - (l .loop .at + 88)) / 88) (omega (arith, i .whole, i .steps, i .within, h))
+          ∙ first-later (a .catalogue .now) (a .key .now) (l .loop .at) ((length (a .catalogue .now) - l .loop .at) / cardLength)
+          ((length (a .catalogue .now) - (l .loop .at + cardLength)) / cardLength) (omega (arith, i .whole, i .steps, i .within, h))
           (sym (c .before .has-site .ensures) ∙ c .if3 .left);
     }
 
@@ -91,22 +92,11 @@ returns-4 c =
     let a = l .before .before .before .before .before .before .args in
     let i = l .loop .inv in
     let e : firstPlace (a .catalogue .now) (a .key .now) ≡ l .loop .at =
-    i .left ∙ first-none (a .catalogue .now) (a .key .now) (l .loop .at) ((length (a .catalogue .now) - l .loop .at) / 88) (omega (arith, c .loop-test .left)) in
+    i .left ∙ first-none (a .catalogue .now) (a .key .now) (l .loop .at) ((length (a .catalogue .now) - l .loop .at) / cardLength) (omega (arith, c .loop-test .left)) in
     found-15 (a .catalogue .now) (a .key .now) (i .shape) (i .whole) (omega (arith, e, c .loop-test .left))
 
 pub scan-spec : {M : Type 1} → statement M
 scan-spec =
     tie.close
-    (tie.spec
-    Inv-loop
-    μ-loop
-    (λ c κs. search needs)
-    returns
-    returns-2
-    loop-holds
-    has-site-requires
-    returns-3
-    (λ c. omega arith)
-    (λ c. omega arith)
-    loop-again
-    returns-4)
+    (tie.spec Inv-loop μ-loop (λ c κs. search needs) returns returns-2 loop-holds has-site-requires returns-3 (λ c. omega arith) (λ c. omega arith)
+    loop-again returns-4)

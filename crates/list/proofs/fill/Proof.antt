@@ -1,4 +1,4 @@
--- `list::fill` meets its contract: each part passed has taken at most 120 bytes of the text. Assumes nothing.
+-- `list::fill` meets its contract: each part passed has taken at most a line of the text. Assumes nothing.
 use mathlib.Core.Path.{_≡_, refl, _∙_}
 use mathlib.Core.List.{List}
 use Prim.Native.Nat.{ℕ, _+_, _-_, _*_, _/_, _%_, _≤_, _<_, min}
@@ -6,17 +6,20 @@ use native.Mathlib.Omega.{arith}
 use borrow.Author.Needs.{needs}
 use lib.ListN.{length, take, drop}
 use borrow.Rule.Slice.PartMut.{same-len-mid}
+use Rattle.codec.specs.Codec.{cardLength}
+use Rattle.catalogue.specs.Line.{lineMost}
 use Rattle.catalogue.proofs.LineLaws.{line-most}
+use Rattle.list.specs.Batch.{inputMost, outputMost}
 use Rattle.list.proofs.fill.Statement.{statement}
 use Rattle.list.proofs.fill.Tie as tie
 
 pub record Filled (parts text₀ text : List ℕ) (filled at : ℕ) : Type 0 where
-  pub size : length parts ≤ 45056
-  pub room : 61440 ≤ length text₀
+  pub size : length parts ≤ inputMost
+  pub room : outputMost ≤ length text₀
   pub kept : length text ≡ length text₀
   pub within : at ≤ length parts
-  pub steps : at < length parts → at % 88 ≡ 0
-  pub spent : filled ≤ 120 * ((at + 87) / 88)
+  pub steps : at < length parts → at % cardLength ≡ 0
+  pub spent : filled ≤ lineMost * ((at + (cardLength - 1)) / cardLength)
 
 abbrev Inv-loop : tie.InvT-loop
 Inv-loop parts text₀ filled₀ at₀ text filled at = Filled parts text₀ text filled at
@@ -24,19 +27,19 @@ Inv-loop parts text₀ filled₀ at₀ text filled at = Filled parts text₀ tex
 abbrev μ-loop : tie.MeasureT-loop
 μ-loop parts text₀ filled₀ at₀ text filled at = length parts - at
 
--- before a part: whole parts were passed, and 120 bytes are free
+-- before a part: whole parts were passed, and a line is free
 pub record Before (parts text : List ℕ) (filled at : ℕ) : Type 0 where
-  pub whole : at % 88 ≡ 0
-  pub spent : filled ≤ 120 * (at / 88)
-  pub free : filled + 120 ≤ length text
+  pub whole : at % cardLength ≡ 0
+  pub spent : filled ≤ lineMost * (at / cardLength)
+  pub free : filled + lineMost ≤ length text
 
 before : {parts text₀ text : List ℕ} {filled at : ℕ} → at < length parts → Filled parts text₀ text filled at → Before parts text filled at
 before {parts} {text₀} {text} {filled} {at} h p =
     let w = p .steps h in
     record { whole = w; spent = omega (arith, p .spent); free = omega (arith, p .spent, p .size, p .room, p .kept) }
 
-next : {parts text₀ text text′ : List ℕ} {filled at end : ℕ} (r : ℕ) → at < length parts → Filled parts text₀ text filled at → end ≡ min (at + 88) (length parts)
-    → r ≤ 120 → length text′ ≡ length text₀ → Filled parts text₀ text′ (filled + r) end
+next : {parts text₀ text text′ : List ℕ} {filled at end : ℕ} (r : ℕ) → at < length parts → Filled parts text₀ text filled at → end ≡ min (at + cardLength) (length parts)
+    → r ≤ lineMost → length text′ ≡ length text₀ → Filled parts text₀ text′ (filled + r) end
 next {parts} {text₀} {text} {text′} {filled} {at} {end} r h p e l k =
     let b = before h p in
     record {
@@ -75,7 +78,7 @@ part-line-start-2 c = omega (arith, ready (c .before .before) .free)
 part-line-end-2 : tie.Need-part-line-end-2 Inv-loop μ-loop
 part-line-end-2 c = omega (arith, ready (c .before .before) .free)
 
-line-short : (c : tie.After-slice-known2 Inv-loop μ-loop) → c .before .before .line .result ≤ 120
+line-short : (c : tie.After-slice-known2 Inv-loop μ-loop) → c .before .before .line .result ≤ lineMost
 line-short c =
     let l = c .before .before .before .before .before .before .before .loop in
     let a = c .before .before .before .before .before .before .before .before .before .before .args in
@@ -103,20 +106,5 @@ returns c = let i = c .before .loop .inv in omega (arith, i .spent, i .within, i
 pub fill-spec : {M : Type 1} → statement M
 fill-spec =
     tie.close
-    (tie.spec
-    Inv-loop
-    μ-loop
-    loop-holds
-    (λ c κs. omega arith)
-    sub-line
-    part-line-start
-    part-line-end
-    sub-line-2
-    part-line-start-2
-    part-line-end-2
-    (λ c κs. search needs)
-    add-filled
-    loop-less
-    loop-again
-    same-length
-    returns)
+    (tie.spec Inv-loop μ-loop loop-holds (λ c κs. omega arith) sub-line part-line-start part-line-end sub-line-2 part-line-start-2 part-line-end-2
+    (λ c κs. search needs) add-filled loop-less loop-again same-length returns)

@@ -5,18 +5,18 @@ use Rattle.mark.proofs.MarkLaws.{squares-unmarked, squares-accepted, nu
 use Rattle.mark.proofs.check_mark.Statement.{statement}
 use Rattle.mark.proofs.check_mark.Tie as tie
 
-squares-within-requires : tie.Need-squares-within-requires
-squares-within-requires c κs = (lit< tt, lit< tt)
+sum-within-requires : tie.Need-sum-within-requires
+sum-within-requires c κs = (lit< tt, lit< tt)
 
 returns : tie.Need-returns
 returns c =
     let m = c .before .before .args .m in
-    sym (number-unmarked m (squares-unmarked m (sym (c .before .squares-within .ensures) ∙ c .if1 .taken)))
+    sym (number-unmarked m (squares-unmarked m (sym (c .before .sum-within .ensures) ∙ c .if1 .taken)))
 
 returns-2 : tie.Need-returns-2
 returns-2 c =
     let m = c .before .before .args .m in
-    sym (number-marked m (squares-accepted m (λ e. c .if1 .left (c .before .squares-within .ensures ∙ e))))
+    sym (number-marked m (squares-accepted m (λ e. c .if1 .left (c .before .sum-within .ensures ∙ e))))
 
 pub check-mark-spec : {M : Type 1} → statement M
-check-mark-spec = tie.close (tie.spec squares-within-requires returns returns-2)
+check-mark-spec = tie.close (tie.spec sum-within-requires returns returns-2)

@@ -3,7 +3,7 @@ use mathlib.Core.Path.{_≡_, ap, _∙_}
 use borrow.Author.Needs.{needs}
 use Rattle.algebra.proofs.Machine.{answered}
 use Rattle.mark.specs.Mark.{vec}
-use Rattle.mark.specs.Permanent.{permanentAnswer}
+use Rattle.tides.specs.Permanent.{permanentAnswer}
 use Rattle.netvjesha.proofs.TripleLaws.{back, permanent-short, permanent-unmarked, permanent-called}
 use Rattle.netvjesha.proofs.nv_permanent.Statement.{statement}
 use Rattle.netvjesha.proofs.nv_permanent.Tie as tie
@@ -35,12 +35,4 @@ returns-3 c =
 pub nv-permanent-spec : {M : Type 1} → statement M
 nv-permanent-spec =
     tie.close
-    (tie.spec
-    returns
-    (λ c κs. search needs)
-    returns-2
-    (λ c. search needs)
-    (λ c. search needs)
-    (λ c. search needs)
-    (λ c. search needs)
-    returns-3)
+    (tie.spec returns (λ c κs. search needs) returns-2 (λ c. search needs) (λ c. search needs) (λ c. search needs) (λ c. search needs) returns-3)

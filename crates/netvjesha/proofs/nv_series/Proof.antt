@@ -1,13 +1,16 @@
--- `netvjesha::nv_series` meets its contract: what `mark::series` answers, packed. Assumes nothing.
-use mathlib.Core.Path.{_≡_, ap, _∙_}
+-- `netvjesha::nv_series` meets its contract: what `tides::series` answers, packed. Assumes nothing.
+use mathlib.Core.Path.{_≡_, ap, _∙_, subst⁻¹}
+use Prim.Native.Nat.{_<_}
 use borrow.Author.Needs.{needs}
 use lib.ListN.{length}
+use Rattle.algebra.proofs.Machine.{rd}
 use Rattle.mark.specs.declared.Vec3.{Vec3}
 use Rattle.mark.specs.Mark.{vec}
-use Rattle.mark.specs.Series.{seriesAnswer, seriesNumbers}
-use Rattle.card.proofs.StepLaws.{rd}
-use Rattle.netvjesha.specs.Face.{packed}
-use Rattle.netvjesha.proofs.TripleLaws.{back, pack-small, pack-is}
+use Rattle.tides.specs.declared.Rows.{Rows}
+use Rattle.tides.specs.Series.{seriesAnswer, seriesNumbers}
+use Rattle.netvjesha.specs.Face.{packedRows}
+use Rattle.netvjesha.proofs.TripleLaws.{back}
+use Rattle.netvjesha.proofs.PackLaws.{series-small}
 use Rattle.netvjesha.proofs.nv_series.Statement.{statement}
 use Rattle.netvjesha.proofs.nv_series.Tie as tie
 
@@ -20,18 +23,19 @@ answer-is s =
     let a = s .before .before .before .args in
     s .series .ensures .0 ∙ ap (λ (m : Vec3). seriesAnswer m (a .bodies .now) (length (a .out .now))) (mark-is s)
 
-add-result : tie.Need-add-result
-add-result c =
-    let a = c .before .before .before .before .args in
-    record { fits = pack-small (vec (a .x) (a .y) (a .z)) (a .bodies .now) (length (a .out .now)) (c .before .series .result) (answer-is (c .before)) }
+packed-requires : tie.Need-packed-requires
+packed-requires c κs =
+    let s = c .before in
+    let a = s .before .before .before .args in
+    subst⁻¹ (λ (r : Rows). r .number < 256) (answer-is s) (series-small (vec (a .x) (a .y) (a .z)) (a .bodies .now) (length (a .out .now)))
 
 returns : tie.Need-returns
 returns c =
-    let s = c .before in
+    let s = c .before .before in
     let a = s .before .before .before .args in (
-      pack-is (s .series .result) ∙ ap packed (answer-is s),
+      c .packed .ensures ∙ ap packedRows (answer-is s),
       s .series .ensures .1 ∙ ap (λ (m : Vec3). seriesNumbers m (a .bodies .now) (a .out .now)) (mark-is s),
     )
 
 pub nv-series-spec : {M : Type 1} → statement M
-nv-series-spec = tie.close (tie.spec (λ c κs. search needs) (λ c. search needs) (λ c. search needs) add-result (λ c. search needs) returns)
+nv-series-spec = tie.close (tie.spec (λ c κs. search needs) packed-requires (λ c. search needs) returns)

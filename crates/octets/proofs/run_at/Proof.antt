@@ -79,16 +79,5 @@ returns c =
 pub run-at-spec : {M : Type 1} → statement M
 run-at-spec =
     tie.close
-    (tie.spec
-    Inv-loop
-    μ-loop
-    loop-holds
-    mul-value
-    add-byte-at
-    (λ c κs. search needs)
-    (λ c. search needs)
-    add-value
-    (λ c. search needs)
-    (λ c. search needs)
-    loop-again
-    returns)
+    (tie.spec Inv-loop μ-loop loop-holds mul-value add-byte-at (λ c κs. search needs) (λ c. search needs) add-value (λ c. search needs)
+    (λ c. search needs) loop-again returns)

@@ -94,14 +94,5 @@ returns-2 c =
 pub signed-at-spec : {M : Type 1} → statement M
 signed-at-spec =
     tie.close
-    (tie.spec
-    (λ c κs. search needs)
-    (λ c κs. search needs)
-    sub-if1
-    (λ c. search needs)
-    returns
-    sub-result
-    (λ c. search needs)
-    sub-result-2
-    sub-result-3
-    returns-2)
+    (tie.spec (λ c κs. search needs) (λ c κs. search needs) sub-if1 (λ c. search needs) returns sub-result (λ c. search needs) sub-result-2
+    sub-result-3 returns-2)

@@ -46,12 +46,4 @@ returns-2 c =
 
 pub unsigned-at-spec : {M : Type 1} → statement M
 unsigned-at-spec =
-    tie.close
-    (tie.spec
-    (λ c κs. search needs)
-    returns
-    (λ c κs. search needs)
-    mul-result
-    (λ c κs. search needs)
-    add-result
-    returns-2)
+    tie.close (tie.spec (λ c κs. search needs) returns (λ c κs. search needs) mul-result (λ c κs. search needs) add-result returns-2)

@@ -9,17 +9,17 @@ use Rattle.card.proofs.Card.solid_off.Tie as tie
 returns : tie.Need-returns
 returns c =
     let a = c .before .before .args in
-    step-refused (a .self) solidOff (c .before .number .result) (c .before .number .ensures) (c .if1 .taken)
+    step-refused (a .self) solidOff (c .before .refusal-of .result) (c .before .refusal-of .ensures) (c .if1 .taken)
 
 solid-taken-requires : tie.Need-solid-taken-requires
-solid-taken-requires c κs = number-passes (c .before .before .args .self) (c .before .number .result) (c .before .number .ensures) (c .if1 .left)
+solid-taken-requires c κs = number-passes (c .before .before .args .self) (c .before .refusal-of .result) (c .before .refusal-of .ensures) (c .if1 .left)
 
 returns-2 : tie.Need-returns-2
 returns-2 c =
     let n = c .before .before in
     let a = n .before .args in
     c .solid-taken .ensures
-    ∙ step-accepted (a .self) solidOff (n .number .result) (n .number .ensures) (c .before .if1 .left)
+    ∙ step-accepted (a .self) solidOff (n .refusal-of .result) (n .refusal-of .ensures) (c .before .if1 .left)
 
 pub solid-off-spec : {M : Type 1} → statement M
 solid-off-spec = tie.close (tie.spec (λ c κs. search needs) returns solid-taken-requires returns-2)

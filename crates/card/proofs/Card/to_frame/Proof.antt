@@ -9,17 +9,17 @@ use Rattle.card.proofs.Card.to_frame.Tie as tie
 returns : tie.Need-returns
 returns c =
     let a = c .before .before .args in
-    step-refused (a .self) (frame (a .frame)) (c .before .number .result) (c .before .number .ensures) (c .if1 .taken)
+    step-refused (a .self) (frame (a .frame)) (c .before .refusal-of .result) (c .before .refusal-of .ensures) (c .if1 .taken)
 
 reframed-requires : tie.Need-reframed-requires
-reframed-requires c κs = number-passes (c .before .before .args .self) (c .before .number .result) (c .before .number .ensures) (c .if1 .left)
+reframed-requires c κs = number-passes (c .before .before .args .self) (c .before .refusal-of .result) (c .before .refusal-of .ensures) (c .if1 .left)
 
 returns-2 : tie.Need-returns-2
 returns-2 c =
     let n = c .before .before in
     let a = n .before .args in
     c .reframed .ensures
-    ∙ step-accepted (a .self) (frame (a .frame)) (n .number .result) (n .number .ensures) (c .before .if1 .left)
+    ∙ step-accepted (a .self) (frame (a .frame)) (n .refusal-of .result) (n .refusal-of .ensures) (c .before .if1 .left)
 
 pub to-frame-spec : {M : Type 1} → statement M
 to-frame-spec = tie.close (tie.spec (λ c κs. search needs) returns reframed-requires returns-2)

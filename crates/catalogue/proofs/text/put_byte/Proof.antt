@@ -1,8 +1,8 @@
 -- `catalogue::text::put_byte` meets its contract: a `set` past the end changes nothing. Assumes nothing.
 use mathlib.Core.Path.{sym}
 use native.Mathlib.Omega.{arith}
-use lib.Seq.{set-out}
 use borrow.Author.Needs.{needs}
+use lib.Seq.{set-out}
 use Rattle.catalogue.proofs.text.put_byte.Statement.{statement}
 use Rattle.catalogue.proofs.text.put_byte.Tie as tie
 

@@ -3,14 +3,14 @@ use mathlib.Core.Path.{_≡_, sym, ap, _∙_}
 use mathlib.Core.List.{List, _∷_}
 use Prim.Native.Nat.{ℕ, suc, _+_}
 use native.Mathlib.Omega.{arith}
+use borrow.Author.Needs.{needs}
 use lib.ListN.{length}
-use Rattle.octets.specs.Octets.{splice}
 use lib.IntN.{pos, negsuc, natAbs}
 use mir.Facts.{toZ-ofZ}
 use Rattle.algebra.proofs.Machine.{negative, positive}
+use Rattle.octets.specs.Octets.{splice}
 use Rattle.catalogue.specs.Line.{natural, integer}
 use Rattle.catalogue.proofs.LineLaws.{then-put}
-use borrow.Author.Needs.{needs}
 use Rattle.catalogue.proofs.text.put_integer.Statement.{statement}
 use Rattle.catalogue.proofs.text.put_integer.Tie as tie
 
@@ -63,15 +63,5 @@ returns-2 c =
 pub put-integer-spec : {M : Type 1} → statement M
 put-integer-spec =
     tie.close
-    (tie.spec
-    (λ c κs. search needs)
-    (λ c κs. search needs)
-    (λ c. search needs)
-    (λ c κs. search needs)
-    (λ c. search needs)
-    (λ c κs. search needs)
-    (λ c. search needs)
-    returns
-    (λ c κs. search needs)
-    (λ c. search needs)
-    returns-2)
+    (tie.spec (λ c κs. search needs) (λ c κs. search needs) (λ c. search needs) (λ c κs. search needs) (λ c. search needs) (λ c κs. search needs)
+    (λ c. search needs) returns (λ c κs. search needs) (λ c. search needs) returns-2)

@@ -1,9 +1,9 @@
 -- `catalogue::text::put_natural` meets its contract: the space, then the digits. Assumes nothing.
 use Prim.Native.Nat.{_+_}
 use native.Mathlib.Omega.{arith}
+use borrow.Author.Needs.{needs}
 use Rattle.catalogue.specs.Line.{natural}
 use Rattle.catalogue.proofs.LineLaws.{then-put}
-use borrow.Author.Needs.{needs}
 use Rattle.catalogue.proofs.text.put_natural.Statement.{statement}
 use Rattle.catalogue.proofs.text.put_natural.Tie as tie
 

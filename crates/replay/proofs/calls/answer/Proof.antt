@@ -6,29 +6,13 @@ use Rattle.replay.proofs.calls.answer.Statement.{statement}
 use Rattle.replay.proofs.calls.answer.Tie as tie
 
 abbrev Inv-loop : tie.InvT-loop
-Inv-loop s card₀ calls n i₀ t8 card i = (i ≤ n) × (64 * n ≤ length calls)
+Inv-loop s at₀ calls n i₀ at i = (i ≤ n) × (64 * n ≤ length calls)
 
 abbrev μ-loop : tie.MeasureT-loop
-μ-loop s card₀ calls n i₀ t8 card i = n - i
+μ-loop s at₀ calls n i₀ at i = n - i
 
 pub answer-spec : {M : Type 1} → statement M
 answer-spec =
     tie.close
-    (tie.spec
-    Inv-loop
-    μ-loop
-    (λ c κs. search needs)
-    (λ c κs. search needs)
-    (λ c. search needs)
-    (λ c. search needs)
-    (λ c κs. search needs)
-    (λ c κs. search needs)
-    (λ c. search needs)
-    (λ c κs. search needs)
-    (λ c. search needs)
-    (λ c κs. search needs)
-    (λ c. search needs)
-    (λ c. search needs)
-    (λ c. search needs)
-    (λ c κs. search needs)
-    (λ c. search needs))
+    (tie.spec Inv-loop μ-loop (λ c κs. search needs) (λ c κs. search needs) (λ c. search needs) (λ c. search needs) (λ c κs. search needs)
+    (λ c κs. search needs) (λ c. search needs) (λ c. search needs) (λ c. search needs) (λ c κs. search needs) (λ c. search needs))

@@ -11,12 +11,5 @@ slice-aggregate-put-written c = sym (length-take-le (c .before .before .before .
 pub answer-buffer-spec : {M : Type 1} → statement M
 answer-buffer-spec =
     tie.close
-    (tie.spec
-    (λ c κs. search needs)
-    (λ c κs. search needs)
-    (λ c κs. search needs)
-    (λ c κs. search needs)
-    (λ c. search needs)
-    slice-aggregate-put-written
-    (λ c κs. search needs)
-    (λ c. search needs))
+    (tie.spec (λ c κs. search needs) (λ c κs. search needs) (λ c κs. search needs) (λ c κs. search needs) (λ c. search needs)
+    slice-aggregate-put-written (λ c κs. search needs) (λ c. search needs))

@@ -20,10 +20,4 @@ float-to-bits-print-hex c = no-nan (c .before .args .x) (c .if1 .left)
 pub put-double-spec : {M : Type 1} → statement M
 put-double-spec =
     tie.close
-    (tie.spec
-    (λ c. search needs)
-    (λ c κs. search needs)
-    (λ c. search needs)
-    float-to-bits-print-hex
-    (λ c κs. search needs)
-    (λ c. search needs))
+    (tie.spec (λ c. search needs) (λ c κs. search needs) (λ c. search needs) float-to-bits-print-hex (λ c κs. search needs) (λ c. search needs))

@@ -1,0 +1,34 @@
+-- `codec::bytes::move_by` meets its contract: what it starts from, the call, then the bytes. Assumes nothing.
+use mathlib.Core.Path.{ap, _∙_}
+use borrow.Author.Needs.{needs}
+use lib.IntN.{ℤ}
+use mir.Facts.{toZ-ofZ}
+use Rattle.card.specs.Calls.{move, step}
+use Rattle.codec.proofs.BytesLaws.{bytes-unopened, opened-room, bytes-stepped}
+use Rattle.codec.proofs.bytes.move_by.Statement.{statement}
+use Rattle.codec.proofs.bytes.move_by.Tie as tie
+
+returns : tie.Need-returns
+returns c =
+    let o = c .before .before in
+    let a = o .before .before .before .args in
+    bytes-unopened (a .s .now) (a .out .now) (move (a .d)) (o .opened .result) (o .opened .ensures) (c .if1 .taken)
+
+put-requires : tie.Need-put-requires
+put-requires c κs =
+    let e = c .before .before in
+    let o = e .before .before in
+    let a = o .before .before .before .args in
+    opened-room (a .s .now) (a .out .now) (move (a .d)) (o .opened .result) (o .opened .ensures) (e .if1 .left)
+
+returns-2 : tie.Need-returns-2
+returns-2 c =
+    let r = c .before .before in
+    let p = r .before .before in
+    let o = p .before .before .before in
+    let a = o .before .before .before .args in
+    bytes-stepped (a .s .now) (a .out .now) (move (a .d)) (o .opened .result) (o .opened .ensures) (p .before .if1 .left) (p .move-by .result)
+    (p .move-by .ensures ∙ ap (λ (d : ℤ). step (o .opened .result .card) (move d)) (toZ-ofZ (o .before .before .before .fits .d))) (r .put .result) (r .put .last .1 .0) (r .put .ensures)
+
+pub move-by-spec : {M : Type 1} → statement M
+move-by-spec = tie.close (tie.spec (λ c κs. search needs) returns (λ c κs. search needs) put-requires (λ c. search needs) returns-2)

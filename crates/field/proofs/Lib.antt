@@ -1,0 +1,5 @@
+-- The laws of the field edition.
+pub mod PackLaws
+pub mod FieldLaws
+pub mod ReturnLaws
+pub mod AnswerLaws

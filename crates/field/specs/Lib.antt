@@ -1,0 +1,3 @@
+-- The field edition and metres out.
+pub mod Field
+pub mod MetresOut

@@ -1,0 +1,3 @@
+-- The laws of the frames.
+pub mod RowLaws
+pub mod FrameLaws

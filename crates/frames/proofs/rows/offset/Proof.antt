@@ -1,0 +1,47 @@
+-- `frames::rows::offset` meets its contract. Assumes nothing.
+use Prim.Native.Nat.{_+_, _*_, _^_}
+use native.Mathlib.Nat.{le-of-lt}
+use borrow.Author.Needs.{needs}
+use lib.Dec.{lit<, lit≤}
+use lib.IntN.{pos, _*ℤ_, _+ℤ_}
+use mir.Syntax.{w64}
+use mir.Val.{toZ, ofZ}
+use Rattle.algebra.proofs.Machine.{Va, given, lit, at, v*, v+, fit}
+use Rattle.numbers.specs.Near.{near}
+use Rattle.numbers.proofs.NearSteps.{vnear}
+use Rattle.frames.specs.Frame.{offset}
+use Rattle.frames.proofs.rows.offset.Statement.{statement}
+use Rattle.frames.proofs.rows.offset.Tie as tie
+
+shift : (c : tie.Start) → Va (pos 146100 *ℤ toZ w64 (ofZ w64 (c .args .t))) (pos 146100 *ℤ c .args .t) (146100 * 10000)
+shift c = v* (lit 146100) (given (c .fits .t) (c .pre .0))
+
+scale : (c : tie.Start) → Va (pos 1461 *ℤ toZ w64 (ofZ w64 (c .args .d))) (pos 1461 *ℤ c .args .d) (1461 * 10000)
+scale c = v* (lit 1461) (given (c .fits .d) (c .pre .1 .0))
+
+scaled : (c : tie.Start) → Va (toZ w64 (ofZ w64 (pos 1461 *ℤ toZ w64 (ofZ w64 (c .args .d)))) *ℤ toZ w64 (ofZ w64 (c .args .m))) (pos 1461 *ℤ c .args .d *ℤ c .args .m) (1461 * 10000 * 2 ^ 30)
+scaled c = v* (at (scale c) (lit< tt)) (given (c .fits .m) (le-of-lt (c .pre .1 .1)))
+
+sum : (c : tie.After-near) → Va (toZ w64 (ofZ w64 (pos 146100 *ℤ toZ w64 (ofZ w64 (c .before .args .t)))) +ℤ toZ w64 (ofZ w64 (c .near .result))) (pos 146100 *ℤ c .before .args .t +ℤ near (pos 1461 *ℤ c .before .args .d *ℤ c .before .args .m) 100000) (146100 * 10000 + 156873680487)
+sum c =
+    v+ (at (shift (c .before)) (lit< tt))
+    (vnear 100000 156873680487 (c .near .ensures) (at (scaled (c .before)) (lit< tt)) (lit≤ tt) (lit< tt))
+
+mul-result : tie.Need-mul-result
+mul-result c = fit (shift c) (lit< tt)
+
+mul-near : tie.Need-mul-near
+mul-near c = fit (scale c) (lit< tt)
+
+mul-near-2 : tie.Need-mul-near-2
+mul-near-2 c = fit (scaled c) (lit< tt)
+
+add-result : tie.Need-add-result
+add-result c = fit (sum c) (lit< tt)
+
+returns : tie.Need-returns
+unfolding offset
+returns c = at (sum c) (lit< tt) .told
+
+pub offset-spec : {M : Type 1} → statement M
+offset-spec = tie.close (tie.spec mul-result mul-near mul-near-2 (λ c κs. search needs) add-result returns)

@@ -1,0 +1,2 @@
+-- What the listing program takes in a turn.
+pub mod Batch

@@ -1,5 +1,0 @@
--- The laws of the three functions: what callers use, and never a definition's text.
-pub mod NearLaws
-pub mod RootLaws
-pub mod NewtonLaws
-pub mod WholeLaws

@@ -1,0 +1,6 @@
+-- The laws of the three functions: what callers use, and never a definition's text.
+pub mod NearLaws
+pub mod NearSteps
+pub mod RootLaws
+pub mod NewtonLaws
+pub mod WholeLaws

@@ -1,0 +1,29 @@
+-- A double as a whole number: the nearest one, halves away from zero, of any size. Infinities and NaN have none.
+use mathlib.Core.Bool.{Bool, true, false, cond}
+use Prim.Native.Nat.{ℕ, _*_, _^_}
+use lib.Dec.{leb}
+use lib.IntN.{ℤ, pos, negℤ, natAbs}
+use lib.Ieee.{Float, nan, inf, fin, up, down}
+use Rattle.numbers.specs.declared.Rounded.{Rounded}
+use Rattle.numbers.specs.declared.Rounded.the-variants.{NotFinite, Far, Number}
+use Rattle.numbers.specs.Near.{near}
+
+-- n with its sign
+abbrev pub signed : Bool → ℕ → ℤ
+signed true n = negℤ (pos n)
+signed false n = pos n
+
+-- the whole number nearest to a double, if it is finite. `fin s m e` is m * 2 ^ e, and 2 ^ e is up e / down e
+pub data Nearest : Type 0 where
+  none : Nearest
+  some : ℤ → Nearest
+
+unfoldable pub wholeOf : Float → Nearest
+wholeOf nan = none
+wholeOf (inf s) = none
+wholeOf (fin s m e) = some (near (signed s (m * up e)) (down e))
+
+-- what each answer of the function stands for: past 2^30 the number is not given, only that it is far
+unfoldable pub shown : Nearest → Rounded
+shown none = NotFinite
+shown (some z) = cond (leb (natAbs z) (2 ^ 30)) (Number z) Far

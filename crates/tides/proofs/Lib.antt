@@ -1,0 +1,8 @@
+-- The laws of the tides.
+pub mod StepLaws
+pub mod DirectionLaws
+pub mod PermanentLaws
+pub mod BodyLaws
+pub mod TideLaws
+pub mod SeriesLaws
+pub mod Constants
