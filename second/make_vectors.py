@@ -1,7 +1,9 @@
 """Writes the vectors of docs/VECTORS.md: make_vectors.py OUTDIR.
 
-OUTDIR/stdin, OUTDIR/stdout, and OUTDIR/VECTORS-COUNT.md with the count of
-vectors per kind and of calls per refusal number. Nothing else is touched.
+stdin and stdout of OUTDIR/replay_shifts (numbers, frames and tides) and of
+OUTDIR/replay (records, calls and catalogues), and OUTDIR/VECTORS-COUNT.md with
+the count of vectors per kind and of calls per refusal number. Nothing else is
+touched.
 """
 
 import os
@@ -16,7 +18,10 @@ import replay
 import wire
 from chance import Chance
 
-MOST = 3_000_000  # bytes of stdin
+MOST = 3_000_000  # bytes of both stdin
+
+# The program that answers each kind.
+PROGRAMS = {kind: "replay_shifts" if kind <= wire.SERIES else "replay" for kind in wire.NAMES}
 
 # Each source and its seed. A new one comes last, so that what stands stays as it is.
 SOURCES = ((gen_numbers.share, 36), (gen_tides.payloads, 37), (gen_records.payloads, 38),
@@ -37,11 +42,10 @@ OWN = {"move": (0, 13, 5, 8), "frame": (0, 3, 7, 8), "mean on": (0, 12, 8),
 
 
 def make():
-    data = bytearray()
+    """Every vector: its kind and its bytes, in order."""
     for source, seed in SOURCES:
         for kind, payload in source(Chance(seed)):
-            data += wire.vector(kind, payload)
-    return bytes(data)
+            yield kind, wire.vector(kind, payload)
 
 
 def check_counts(found):
@@ -83,17 +87,23 @@ def save(path, data):
 
 
 def main(outdir):
-    data, counts, kinds, lines = make(), replay.Counts(), {}, []
-    for kind, line in replay.answers(data, counts):
+    counts, kinds, size = replay.Counts(), {}, 0
+    inputs, outputs = ({name: [] for name in PROGRAMS.values()} for _ in range(2))
+    for kind, data in make():
+        (_, line), = replay.answers(data, counts)
         kinds[kind] = kinds.get(kind, 0) + 1
-        lines.append(line + "\n")
-    assert len(lines) >= 3_000 and len(data) < MOST, (len(lines), len(data))
+        size += len(data)
+        inputs[PROGRAMS[kind]].append(data)
+        outputs[PROGRAMS[kind]].append((line + "\n").encode("ascii"))
+    total = sum(kinds.values())
+    assert total >= 3_000 and size < MOST, (total, size)
     check_counts(counts.found)
-    os.makedirs(outdir, exist_ok=True)
-    save(os.path.join(outdir, "stdin"), data)
-    save(os.path.join(outdir, "stdout"), "".join(lines).encode("ascii"))
+    for name in inputs:
+        os.makedirs(os.path.join(outdir, name), exist_ok=True)
+        save(os.path.join(outdir, name, "stdin"), b"".join(inputs[name]))
+        save(os.path.join(outdir, name, "stdout"), b"".join(outputs[name]))
     save(os.path.join(outdir, "VECTORS-COUNT.md"), count_page(kinds, counts.found).encode("ascii"))
-    print(f"{len(lines)} vectors, {len(data)} bytes of stdin")
+    print(f"{total} vectors, {size} bytes of stdin")
 
 
 if __name__ == "__main__":

@@ -11,20 +11,19 @@ use Rattle.algebra.proofs.BoolLaws.{both, and-left, and-right}
 use Rattle.refusal.specs.Refusal.{Table, first}
 use Rattle.refusal.proofs.RefusalLaws.{positive, NoneHolds, accepted, stays, onward}
 use Rattle.mark.specs.declared.Vec3.{Vec3}
-use Rattle.mark.specs.Mark.{nowhere, plus, sized, minus, scaled}
+use Rattle.mark.specs.Mark.{nowhere, plus, sized, scaled}
 use Rattle.mark.specs.Ranges.{Within}
 use Rattle.mark.proofs.SizeLaws.{is-sized}
 use Rattle.frames.specs.Frame.{knownFrame}
-use Rattle.tides.specs.declared.Body.{Body}
-use Rattle.tides.specs.Permanent.{permanent}
 use Rattle.tides.specs.Bodies.{moon, sun, inReach, moonOf, sunOf}
 use Rattle.tides.specs.Tide.{tide}
 use Rattle.tides.proofs.TideLaws.{tide-within}
+use Rattle.head.specs.State.{stateOf, withState, stateFits}
+use Rattle.head.specs.Head.{epochFits}
+use Rattle.head.proofs.StateLaws.{state-with, with-fits}
 use Rattle.card.specs.declared.Card.{Card}
-use Rattle.card.specs.Checks.{isZero, tideFits, epochFits, velocityFits, positionFits, vectorFits, checks, cardNumber}
-use Rattle.card.specs.Calls.{Call, move, frame, meanOn, meanOff, solidOn, solidOff, moved, reframed, next, own, callNumber}
-use Rattle.card.specs.State.{stateOf, withState, stateFits}
-use Rattle.card.proofs.StateLaws.{state-with, with-fits}
+use Rattle.card.specs.Checks.{isZero, tideFits, velocityFits, positionFits, vectorFits, checks, cardNumber}
+use Rattle.card.specs.Calls.{Call, move, frame, meanOn, meanOff, solidOn, solidOff, with-position, moved, reframed, next, own, callNumber}
 use Rattle.card.proofs.CheckLaws.{Passed, passed, passed-number, positive-checks}
 
 -- ---- a table in two parts, of which no condition holds
@@ -129,70 +128,32 @@ module _ (c : Card) (p : Passed c) where
       other-fits (c .tide) state (c .solid) known (omega arith)
       (rw (ne-eqb state 2 (λ q. omega arith)) (zero-vector (c .tide) (c .solid) (omega (arith, e)) (p .tide)))
 
-  after-mean-on : NoneHolds (own c (next c meanOn) meanOn) → Passed (next c meanOn)
-  unfolding next own
-  after-mean-on h =
+  -- a tide call: byte 10, the position and the stored vector are new
+  retided : (byte : ℕ) (q v : Vec3) → tideFits byte v ≡ true → (not (positionFits (c .mark) q) ≡ false) → vectorFits v ≡ true → Passed (with-position c byte q v)
+  retided byte q v t f z =
       record {
         site = p .site;
         frame = p .frame;
-        tide = still 0 1 (omega arith) (omega arith) (byte-is (stateOf (c .tide)) 0 (h 0 (lit< tt)));
+        tide = t;
         epoch = p .epoch;
         mark = p .mark;
         velocity = p .velocity;
-        position = not-false (positionFits (c .mark) (plus (c .position) (permanent (c .mark)))) (h 1 (lit< tt));
-        solid = p .solid;
-      }
-
-  after-mean-off : NoneHolds (own c (next c meanOff) meanOff) → Passed (next c meanOff)
-  unfolding next own
-  after-mean-off h =
-      record {
-        site = p .site;
-        frame = p .frame;
-        tide = still 1 0 (omega arith) (omega arith) (byte-is (stateOf (c .tide)) 1 (h 0 (lit< tt)));
-        epoch = p .epoch;
-        mark = p .mark;
-        velocity = p .velocity;
-        position = not-false (positionFits (c .mark) (minus (c .position) (permanent (c .mark)))) (h 1 (lit< tt));
-        solid = p .solid;
-      }
-
-  after-solid-on : (a b : Body) → NoneHolds (own c (next c (solidOn a b)) (solidOn a b)) → Passed (next c (solidOn a b))
-  unfolding next own
-  after-solid-on a b h =
-      let r = both (inReach moon (moonOf a b)) (inReach sun (sunOf a b)) (not-false (inReach moon (moonOf a b) && inReach sun (sunOf a b)) (h 3 (lit< tt))) in
-      record {
-        site = p .site;
-        frame = p .frame;
-        tide = other-fits (c .tide) 2 (tide (c .mark) (moonOf a b) (sunOf a b)) known (omega arith) refl;
-        epoch = p .epoch;
-        mark = p .mark;
-        velocity = p .velocity;
-        position = not-false (positionFits (c .mark) (plus (c .position) (tide (c .mark) (moonOf a b) (sunOf a b)))) (h 4 (lit< tt));
-        solid = vector-fits (tide (c .mark) (moonOf a b) (sunOf a b)) (tide-within (c .mark) (moonOf a b) (sunOf a b) (p .mark) (r .0) (r .1));
-      }
-
-  after-solid-off : NoneHolds (own c (next c solidOff) solidOff) → Passed (next c solidOff)
-  unfolding next own
-  after-solid-off h =
-      record {
-        site = p .site;
-        frame = p .frame;
-        tide = other-fits (c .tide) 0 nowhere known (omega arith) nowhere-zero;
-        epoch = p .epoch;
-        mark = p .mark;
-        velocity = p .velocity;
-        position = not-false (positionFits (c .mark) (minus (c .position) (c .solid))) (h 1 (lit< tt));
-        solid = nowhere-fits;
+        position = not-false (positionFits (c .mark) q) f;
+        solid = z;
       }
 
   pub next-passed : (k : Call) → NoneHolds (own c (next c k) k) → Passed (next c k)
+  unfolding next own
   next-passed (move d) h = after-move d h
   next-passed (frame g) h = after-frame g h
-  next-passed meanOn h = after-mean-on h
-  next-passed meanOff h = after-mean-off h
-  next-passed (solidOn a b) h = after-solid-on a b h
-  next-passed solidOff h = after-solid-off h
+  next-passed meanOn h = retided _ _ _ (still 0 1 (omega arith) (omega arith) (byte-is (stateOf (c .tide)) 0 (h 0 (lit< tt)))) (h 1 (lit< tt)) (p .solid)
+  next-passed meanOff h = retided _ _ _ (still 1 0 (omega arith) (omega arith) (byte-is (stateOf (c .tide)) 1 (h 0 (lit< tt)))) (h 1 (lit< tt)) (p .solid)
+  next-passed (solidOn a b) h =
+      let v = tide (c .mark) (moonOf a b) (sunOf a b) in
+      let r = both (inReach moon (moonOf a b)) (inReach sun (sunOf a b)) (not-false (inReach moon (moonOf a b) && inReach sun (sunOf a b)) (h 3 (lit< tt))) in
+      retided _ _ _ (other-fits (c .tide) 2 v known (omega arith) refl) (h 4 (lit< tt))
+      (vector-fits v (tide-within (c .mark) (moonOf a b) (sunOf a b) (p .mark) (r .0) (r .1)))
+  next-passed solidOff h = retided _ _ _ (other-fits (c .tide) 0 nowhere known (omega arith) nowhere-zero) (h 1 (lit< tt)) nowhere-fits
 
 -- ---- every call
 

@@ -3,7 +3,7 @@ use mathlib.Core.Path.{_≡_, refl, sym, ap, _∙_}
 use mathlib.Core.Bool.{Bool, true}
 use Prim.Native.Nat.{_*_, _≤_}
 use native.Mathlib.Omega.{arith}
-use borrow.Author.Tests.{leb-true, eqb-true, eq-eqb, not-false}
+use borrow.Author.Tests.{eqb-true, eq-eqb, not-false}
 use lib.Dec.{eqb, lit<}
 use lib.IntN.{ℤ, pos, natAbs, _-ℤ_, _*ℤ_}
 use Rattle.algebra.proofs.BoolLaws.{holds, passes}
@@ -17,9 +17,11 @@ use Rattle.mark.proofs.MarkLaws.{accepted-within}
 use Rattle.mark.proofs.SizeLaws.{sized-is}
 use Rattle.frames.specs.Frame.{knownFrame}
 use Rattle.tides.specs.Tide.{tide}
+use Rattle.head.specs.Head.{siteShape, epochFits}
+use Rattle.head.proofs.HeadLaws.{epoch-small}
 use Rattle.card.specs.declared.Card.{Card}
 use Rattle.card.specs.declared.Offset.{Offset}
-use Rattle.card.specs.Checks.{siteShape, tideFits, epochFits, velocityFits, fromMark, positionFits, vectorFits, checks, cardNumber, Valid, offsetAnswer}
+use Rattle.card.specs.Checks.{tideFits, velocityFits, fromMark, positionFits, vectorFits, checks, cardNumber, Valid, offsetAnswer}
 
 -- ---- a card that passed its checks
 
@@ -77,10 +79,6 @@ valid-passed c v = passed c (valid-number c v)
 -- a position within 1,000 m of a mark
 near-mark : (m p : ℤ) → natAbs (p -ℤ pos 1461000000 *ℤ m) ≤ 1461000000000 → natAbs m ≤ 6400000 → natAbs p ≤ 9351861000000000
 near-mark m p h k = omega (arith, apart p (pos 1461000000 *ℤ m), abs-* (pos 1461000000) m)
-
-pub epoch-small : (e : ℤ) → epochFits e ≡ true → natAbs e ≤ 146100
-unfolding epochFits
-epoch-small e h = leb-true (natAbs e) 146100 h
 
 pub velocity-small : (v : Vec3) → velocityFits v ≡ true → Within 500000 v
 unfolding velocityFits

@@ -5,42 +5,36 @@ use mathlib.Core.List.{_++_}
 use Prim.Native.Nat.{ℕ, zero, suc, _+_, _≤_, _<_}
 use native.Mathlib.Omega.{arith}
 use borrow.Author.Tests.{lt-leb, eq-eqb, ne-eqb, not-false}
-use lib.Dec.{lit<, lit≤, eqb}
-use lib.IntN.{ℤ, natAbs, _+ℤ_, _-ℤ_, _*ℤ_}
+use lib.Dec.{T, lit<, lit≤, eqb}
+use lib.IntN.{ℤ, natAbs, _+ℤ_}
 use Rattle.algebra.proofs.BoolLaws.{both}
 use Rattle.algebra.proofs.Difference.{split, ℤ⊖}
-use Rattle.algebra.proofs.Machine.{Va, plain, at, v+, v-, v*, rd}
 use Rattle.refusal.specs.Refusal.{first, choose}
 use Rattle.refusal.proofs.RefusalLaws.{positive, accepted, stays, onward}
 use Rattle.mark.specs.declared.Vec3.{Vec3}
-use Rattle.mark.specs.Mark.{nowhere, marked, plus, minus, scaled}
+use Rattle.mark.specs.Mark.{nowhere, marked, plus, minus, scaled, sized}
 use Rattle.mark.specs.Ranges.{Within}
+use Rattle.mark.proofs.LengthLaws.{widen}
+use Rattle.mark.proofs.SizeLaws.{within-sized}
 use Rattle.frames.specs.Frame.{knownFrame, frameShift, frameGain}
 use Rattle.tides.specs.declared.Body.{Body}
 use Rattle.tides.specs.declared.Shift.{Shift}
-use Rattle.tides.specs.Permanent.{permanent}
+use Rattle.tides.specs.Permanent.{permanent, permanentAnswer}
 use Rattle.tides.specs.Bodies.{moon, sun, inReach, moonOf, sunOf}
 use Rattle.tides.specs.Tide.{tide, tideNumber, tideAnswer, pairChecks}
+use Rattle.tides.proofs.PermanentLaws.{permanent-within, shift-is}
 use Rattle.tides.proofs.TideLaws.{tide-within}
+use Rattle.head.specs.State.{stateOf, withState}
+use Rattle.head.specs.Head.{epochFits}
 use Rattle.card.specs.declared.Card.{Card}
 use Rattle.card.specs.declared.Answer.{Answer}
-use Rattle.card.specs.Checks.{tideFits, epochFits, velocityFits, positionFits, checks, cardNumber, Valid}
+use Rattle.card.specs.Checks.{tideFits, velocityFits, positionFits, checks, cardNumber, Valid}
 use Rattle.card.specs.Calls.{Call, move, frame, meanOn, meanOff, solidOn, solidOff, with-position, moved, reframed, next, near-mark, own, callNumber, settle, step}
 use Rattle.card.specs.Steps.{after, retided}
-use Rattle.card.specs.State.{stateOf, withState}
-use Rattle.card.proofs.CheckLaws.{positive-checks, number-valid}
+use Rattle.card.proofs.CheckLaws.{positive-checks, number-valid, valid-passed, valid-small}
 
 abbrev pub answer : ℕ → Card → Answer
 answer n c = record { number = n; card = c }
-
-pub sum : (a b : ℤ) → natAbs a ≤ 4000000000000000000 → natAbs b ≤ 4000000000000000000 → Va (rd a +ℤ rd b) (a +ℤ b) 8000000000000000000
-sum a b h k = v+ (at (plain a h) (lit< tt)) (at (plain b k) (lit< tt))
-
-pub difference : (a b : ℤ) → natAbs a ≤ 4000000000000000000 → natAbs b ≤ 4000000000000000000 → Va (rd a -ℤ rd b) (a -ℤ b) 8000000000000000000
-difference a b h k = v- (at (plain a h) (lit< tt)) (at (plain b k) (lit< tt))
-
-pub product : (a b : ℤ) → natAbs a ≤ 1000000 → natAbs b ≤ 1000000000000 → Va (rd a *ℤ rd b) (a *ℤ b) 1000000000000000000
-product a b h k = v* (at (plain a h) (lit< tt)) (at (plain b k) (lit< tt))
 
 some-of : (n : ℕ) → (n ≡ 0 → ⊥) → 0 < n
 some-of n h = omega arith
@@ -129,20 +123,38 @@ module _ (c : Card) (g : ℕ) where
     unfolding after own next reframed settle first
     reframed-near v p e q s w = rw (h, e, q, s, w)
 
--- ---- mean on, mean off, solid off: 12, 8
+-- ---- what the steps ask of a valid card
 
-module _ (c : Card) where
-  pub mean-on-is : retided c 0 1 0 (plus (c .position) (permanent (c .mark))) (c .solid) ≡ after c meanOn
-  unfolding after own next retided first
-  mean-on-is = refl
+module _ (c : Card) (v : Valid c) where
+  pub mark-sized : T (sized 6400000 (c .mark))
+  mark-sized = within-sized (valid-small c v .mark)
 
-  pub mean-off-is : retided c 1 0 0 (minus (c .position) (permanent (c .mark))) (c .solid) ≡ after c meanOff
-  unfolding after own next retided first
-  mean-off-is = refl
+  -- to a position in range, three numbers up to the largest stored vector can be added
+  pub addable : {w : Vec3} → Within 1461000000 w → T (sized 4000000000000000000 (c .position)) × T (sized 4000000000000000000 w)
+  addable h = (within-sized (widen (valid-small c v .position) (lit≤ tt)), within-sized (widen h (lit≤ tt)))
 
-  pub solid-off-is : retided c 2 0 0 (minus (c .position) (c .solid)) nowhere ≡ after c solidOff
+-- ---- mean on, mean off: 12, 8. The permanent shift s as it came back, and the position p after it
+
+module _ (c : Card) (v : Valid c) (s : Shift) (q : s ≡ permanentAnswer (c .mark)) where
+  is : s .shift ≡ permanent (c .mark)
+  is = shift-is (c .mark) s (valid-passed c v .mark) q
+
+  pub mean-small : Within 1461000000 (s .shift)
+  mean-small = subst⁻¹ (λ (w : Vec3). Within 1461000000 w) is (widen (permanent-within (c .mark)) (lit≤ tt))
+
+  pub mean-on-is : (p : Vec3) → p ≡ plus (c .position) (s .shift) → retided c 0 1 0 p (c .solid) ≡ after c meanOn
   unfolding after own next retided first
-  solid-off-is = refl
+  mean-on-is p e = rw (e, is)
+
+  pub mean-off-is : (p : Vec3) → p ≡ minus (c .position) (s .shift) → retided c 1 0 0 p (c .solid) ≡ after c meanOff
+  unfolding after own next retided first
+  mean-off-is p e = rw (e, is)
+
+-- ---- solid off: 12, 8
+
+pub solid-off-is : (c : Card) (p : Vec3) → p ≡ minus (c .position) (c .solid) → retided c 2 0 0 p nowhere ≡ after c solidOff
+unfolding after own next retided first
+solid-off-is c p e = rw e
 
 -- ---- solid on: 12, 17, 10, 11, 8
 

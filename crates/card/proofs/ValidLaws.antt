@@ -1,12 +1,9 @@
--- More of a card that passed its checks: the length before them, its nine bytes of site, and byte 10 without solid tide.
+-- More of a card that passed its checks: the size of its position, and byte 10 without solid tide.
 use mathlib.Core.Path.{_≡_, ap}
 use mathlib.Core.Bool.{true, false, _||_}
-use mathlib.Core.List.{List}
 use Prim.Native.Nat.{ℕ, _≤_}
 use native.Mathlib.Omega.{arith}
-use borrow.Author.Tests.{eqb-true}
 use lib.Dec.{eqb, lit≤}
-use lib.ListN.{length}
 use lib.IntN.{ℤ, pos, negsuc, natAbs}
 use Rattle.algebra.proofs.BoolLaws.{and-left, and-right}
 use Rattle.mark.specs.declared.Vec3.{Vec3}
@@ -15,16 +12,12 @@ use Rattle.mark.specs.Ranges.{Within}
 use Rattle.mark.proofs.LengthLaws.{vec≡, widen}
 use Rattle.mark.proofs.MarkLaws.{accepted-within}
 use Rattle.mark.proofs.SizeLaws.{sized-is}
-use Rattle.card.specs.Checks.{shapeFrom, siteShape, isZero, tideFits, positionFits}
-use Rattle.card.specs.State.{stateOf, stateFits}
+use Rattle.head.specs.State.{stateOf, stateFits}
+use Rattle.head.proofs.StateLaws.{fits-low}
+use Rattle.card.specs.Checks.{isZero, tideFits, positionFits}
 use Rattle.card.proofs.CheckLaws.{position-small}
-use Rattle.card.proofs.StateLaws.{fits-low}
 
 -- ---- sizes
-
-pub site-nine : (s : List ℕ) → siteShape s ≡ true → length s ≡ 9
-unfolding siteShape
-site-nine s e = eqb-true (length s) 9 (and-left (eqb (length s) 9) (shapeFrom s 0 9) e)
 
 pub position-size : (m p : Vec3) → marked m ≡ true → positionFits m p ≡ true → Within 10000000000000000 p
 position-size m p e f = widen (position-small m p (accepted-within m e) f) (lit≤ tt)

@@ -12,10 +12,11 @@ use Rattle.tides.specs.declared.Body.{Body}
 use Rattle.tides.specs.Permanent.{permanent}
 use Rattle.tides.specs.Bodies.{moonOf, sunOf}
 use Rattle.tides.specs.Tide.{tide, pairChecks}
+use Rattle.head.specs.State.{stateOf, withState}
+use Rattle.head.specs.Head.{epochFits}
 use Rattle.card.specs.declared.Card.{Card}
 use Rattle.card.specs.declared.Answer.{Answer}
-use Rattle.card.specs.State.{stateOf, withState}
-use Rattle.card.specs.Checks.{epochFits, velocityFits, positionFits, checks}
+use Rattle.card.specs.Checks.{velocityFits, positionFits, checks}
 use Rattle.card.specs.declared.Call as declared
 use Rattle.card.specs.declared.Call.the-variants as Is
 

@@ -1,6 +1,5 @@
 -- The card: its checks, the card of all zeros, the calls.
 pub mod Checks
-pub mod State
 pub mod Zero
 pub mod Calls
 pub mod Steps

@@ -1,7 +1,9 @@
 // The calls, on a card that passed its checks, so that nothing leaves 64 bits.
 ghost use mathlib.Core.Path.{_≡_};
+ghost use mathlib.Core.Bool.{true};
 ghost use lib.Dec.{T};
 ghost use Rattle.mark.specs.Mark as M;
+ghost use Rattle.frames.specs.Frame as F;
 ghost use Rattle.card.specs.Checks as K;
 ghost use Rattle.card.specs.Calls as L;
 ghost use Rattle.card.specs.Steps as S;
@@ -9,12 +11,12 @@ use crate::Answer;
 use crate::Card;
 use crate::checks::VELOCITY_MOST;
 use crate::checks::position_fits;
-use crate::epoch_fits;
-use crate::state::state_of;
-use crate::state::with_state;
 use crate::vectors::minus;
 use crate::vectors::plus;
 use crate::vectors::scaled;
+use head::epoch_fits;
+use head::state::state_of;
+use head::state::with_state;
 use mark::Vec3;
 use mark::sized;
 use tides::Body;
@@ -86,6 +88,23 @@ pub fn moved(c: Card, d: i64) -> Answer
     }
 }
 
+// What a frame gives at a card's mark and epoch: A + B x epoch in grains, and B in grains a quarter-day.
+struct AtEpoch {
+    at: Vec3,
+    rate: Vec3,
+}
+
+fn framed(c: Card, frame: u8) -> AtEpoch
+    requires { ⌜ K.Valid c ⌝ }
+    requires { ⌜ F.knownFrame frame ≡ true ⌝ }
+    ensures { λ r. ⌜ r ≡ S.framed c frame ⌝ }
+{
+    let t = frames::frame_terms(c.mark, frame);
+    let rate = t.b;
+    let at = plus(t.a, scaled(c.epoch, rate));
+    AtEpoch { at, rate }
+}
+
 // 3, 7, 8.
 pub fn reframed(c: Card, frame: u8) -> Answer
     requires { ⌜ K.Valid c ⌝ }
@@ -94,15 +113,13 @@ pub fn reframed(c: Card, frame: u8) -> Answer
     if frames::LAST_FRAME < frame {
         return Answer { number: 3, card: c };
     }
-    let f = frames::frame_terms(c.mark, c.frame);
-    let g = frames::frame_terms(c.mark, frame);
-    let velocity = plus(c.velocity, minus(g.b, f.b));
+    let f = framed(c, c.frame);
+    let g = framed(c, frame);
+    let velocity = plus(c.velocity, minus(g.rate, f.rate));
     if !sized(velocity, VELOCITY_MOST) {
         return Answer { number: 7, card: c };
     }
-    let there = plus(g.a, scaled(c.epoch, g.b));
-    let here = plus(f.a, scaled(c.epoch, f.b));
-    let position = plus(c.position, minus(there, here));
+    let position = plus(c.position, minus(g.at, f.at));
     if !position_fits(c.mark, position) {
         return Answer { number: 8, card: c };
     }

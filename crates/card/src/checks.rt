@@ -1,4 +1,4 @@
-// A card's checks, one by one, and all of them in the paper's order.
+// A card's checks beside those of `head`, one by one, and all of them in the paper's order.
 ghost use mathlib.Core.Path.{_≡_};
 ghost use mathlib.Core.Bool.{not, _&&_};
 ghost use mathlib.Core.List.{[], _∷_};
@@ -7,8 +7,8 @@ ghost use Rattle.refusal.specs.Refusal as R;
 ghost use Rattle.mark.specs.Mark as M;
 ghost use Rattle.card.specs.Checks as K;
 use crate::Card;
-use crate::check_head;
-use crate::state::state_of;
+use head::check_head;
+use head::state::state_of;
 use mark::Vec3;
 use mark::sized;
 
@@ -22,16 +22,6 @@ const TIDE_MOST: u64 = 1461000000;
 
 // Micrometres a year, a component.
 pub const VELOCITY_MOST: u64 = 500000;
-
-// Byte 5 is M or S, every other one a digit.
-pub fn shape_at(i: usize, b: u8) -> bool
-    ensures { λ r. ⌜ r ≡ K.shapeAt i b ⌝ }
-{
-    if i == 5 {
-        return b == 77 || b == 83;
-    }
-    48 <= b && b <= 57
-}
 
 // Byte 10 is 0, 1 or 2, and the stored vector is zero unless it is 2.
 pub fn tide_fits(byte: u8, v: Vec3) -> bool
@@ -86,9 +76,9 @@ pub fn refusal_of(c: Card, zeros: bool) -> u32
 {
     let site = c.site;
     let fits = fourth_fits(zeros, c.tide, c.solid);
-    let head = check_head(site, c.frame, fits, c.epoch, c.mark);
-    if head != 0 {
-        return head;
+    let number = check_head(site, c.frame, fits, c.epoch, c.mark);
+    if number != 0 {
+        return number;
     }
     if !sized(c.velocity, VELOCITY_MOST) {
         return 7;

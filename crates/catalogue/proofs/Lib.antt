@@ -1,4 +1,3 @@
 -- The laws of the catalogue.
 pub mod LookupLaws
 pub mod ReaderLaws
-pub mod LineLaws

@@ -10,7 +10,7 @@ use lib.Dec.{eqb, ltb}
 use lib.ListN.{length, take, drop}
 use lib.Seq.{drop-length, take-nil}
 use Rattle.refusal.specs.Refusal.{first}
-use Rattle.card.specs.Checks.{siteShape}
+use Rattle.head.specs.Head.{siteShape}
 use Rattle.codec.specs.Codec.{cardLength}
 use Rattle.catalogue.specs.declared.Found.{Found}
 use Rattle.catalogue.specs.Lookup.{hasSite, firstFrom, firstPlace, findNumber, findPlace, findPart, found}

@@ -1,5 +1,4 @@
--- The catalogue: lookup, the reader's step, a whole catalogue's check, and the listing line.
+-- The catalogue: lookup, the reader's step, and a whole catalogue's check.
 pub mod Lookup
 pub mod Reader
 pub mod Whole
-pub mod Line

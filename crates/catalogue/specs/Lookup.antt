@@ -5,7 +5,7 @@ use Prim.Native.Nat.{ℕ, zero, suc, _+_, _/_, _%_}
 use lib.Dec.{eqb, ltb}
 use lib.ListN.{length, getD, take, drop}
 use Rattle.refusal.specs.Refusal.{first}
-use Rattle.card.specs.Checks.{siteShape}
+use Rattle.head.specs.Head.{siteShape}
 use Rattle.codec.specs.Codec.{cardLength}
 use Rattle.catalogue.specs.declared.Found.{Found}
 

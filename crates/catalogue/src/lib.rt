@@ -1,21 +1,14 @@
-// A catalogue: records of a card's length one after another. Lookup by site, the reader's step, the listing line.
+// A catalogue: records of a card's length one after another. Lookup by site, a whole catalogue's check, the reader's step.
 // Every function takes any bytes.
 ghost use mathlib.Core.Path.{_≡_};
 ghost use Prim.Native.Nat.{_+_, _≤_};
 ghost use lib.ListN.{length};
 ghost use Rattle.catalogue.specs.Lookup as L;
 ghost use Rattle.catalogue.specs.Reader as R;
-ghost use Rattle.catalogue.specs.Line as T;
 ghost use Rattle.catalogue.specs.Whole as W;
-ghost use Rattle.octets.specs.Octets as O;
 use card::Answer;
 use card::Card;
 use codec::CARD_LENGTH;
-
-mod text;
-
-// The most bytes that a listing line has.
-pub const LINE_MOST: usize = 120;
 
 // What a lookup finds: its refusal number, 0 when found, and the record's first byte, the catalogue's length when refused.
 struct Found {
@@ -146,52 +139,11 @@ pub fn next<'s, 'a>(r: &'s mut Reader<'a>) -> Taken
     taken
 }
 
-// Writes the listing line of one part from the buffer's first byte on, and answers how many bytes the line has, at most 120.
-// What lies past the buffer's end is not written.
-pub fn line(s: &[u8], out: &mut [u8]) -> usize
-    ensures { λ r. ⌜ r ≡ length (T.lineOf (now (s .entry))) ⌝ }
-    ensures { λ _. ⌜ now (out .exit) ≡ O.splice (now (out .entry)) 0 (T.lineOf (now (s .entry))) ⌝ }
-{
-    let answer = codec::read(s);
-    if answer.number != 0 {
-        return put_refused(out, answer.number);
-    }
-    put_card(out, answer.card)
-}
-
-// `refused`, the number, a line feed.
-fn put_refused(out: &mut [u8], number: u32) -> usize
-    ensures { λ r. ⌜ r ≡ length (T.refusedLine number) ⌝ }
-    ensures { λ _. ⌜ now (out .exit) ≡ O.splice (now (out .entry)) 0 (T.refusedLine number) ⌝ }
-{
-    octets::put_bytes(out, 0, b"refused");
-    let end = text::put_natural(out, 7, number as u64);
-    text::put_byte(out, end, 10);
-    end + 1
-}
-
-// Site, frame, epoch, position, a line feed.
-fn put_card(out: &mut [u8], c: Card) -> usize
-    requires { ⌜ length (c .site) ≡ 9 ⌝ }
-    ensures { λ r. ⌜ r ≡ length (T.cardLine c) ⌝ }
-    ensures { λ _. ⌜ now (out .exit) ≡ O.splice (now (out .entry)) 0 (T.cardLine c) ⌝ }
-{
-    let site = c.site;
-    octets::put_bytes(out, 0, &site);
-    let f = text::put_natural(out, 9, c.frame as u64);
-    let e = text::put_integer(out, f, c.epoch);
-    let x = text::put_integer(out, e, c.position.x);
-    let y = text::put_integer(out, x, c.position.y);
-    let z = text::put_integer(out, y, c.position.z);
-    text::put_byte(out, z, 10);
-    z + 1
-}
-
 // One pass over the records, which stops at the first with the key's site.
 fn scan(catalogue: &[u8], key: &[u8]) -> Found
     ensures { λ r. ⌜ r ≡ L.found (now (catalogue .entry)) (now (key .entry)) ⌝ }
 {
-    if !card::is_site(key) {
+    if !head::is_site(key) {
         return Found {
             number: 2,
             place: catalogue.len(),

@@ -40,11 +40,11 @@ both-fit false w r h e = absurd (one e)
 
 -- ---- a call on a card's bytes
 
-module _ (s out : List ℕ) (k : Call) where
+module _ (s out : List ℕ) where
   -- the card's own number before the call's
-  number-before : (d : Card) → callNumber d k ≡ before (cardNumber d) (callNumber d k)
+  number-before : (k : Call) (d : Card) → callNumber d k ≡ before (cardNumber d) (callNumber d k)
   unfolding callNumber cardNumber
-  number-before d = go (first (checks true d)) refl
+  number-before k d = go (first (checks true d)) refl
     where
       go : (n : ℕ) → first (checks true d) ≡ n → first (checks true d ++ own d (next d k) k) ≡ before (first (checks true d)) (first (checks true d ++ own d (next d k) k))
       go zero e = passed-before (first (checks true d)) (first (checks true d ++ own d (next d k) k)) e
@@ -62,9 +62,9 @@ module _ (s out : List ℕ) (k : Call) where
     unopened true false r m h = refused-before r m h
     unopened false w r m h = refl
 
-    pub bytes-unopened : (o .number ≡ 0 → ⊥) → (o .number ≡ bytesNumber (length out) s k) × (out ≡ bytesOut out s k)
+    pub bytes-unopened : (k : Call) → (o .number ≡ 0 → ⊥) → (o .number ≡ bytesNumber (length out) s k) × (out ≡ bytesOut out s k)
     unfolding openedNumber bytesNumber bytesOut roomy
-    bytes-unopened h =
+    bytes-unopened k h =
         let e = number-opened
         ∙ unopened (eqb (length out) cardLength) (eqb (length s) cardLength && eqb (getD s 11 0) 0) (readNumber s) (callNumber (decode s) k) (λ z. h (number-opened ∙ z)) in
         (e, keeps (o .number) (bytesNumber (length out) s k) (encode (next (decode s) k)) out e h)
@@ -91,14 +91,14 @@ module _ (s out : List ℕ) (k : Call) where
           let p = both (eqb (length s) cardLength) (eqb (getD s 11 0) 0) (fits .1) in
           sym (number-long s (eqb-true (length s) cardLength (p .0))) ∙ ap (λ (b : Bool). first (checks b (decode s))) (p .1)
 
-      module _ (a : Answer) (e : a ≡ step (o .card) k) where
+      module _ (k : Call) (a : Answer) (e : a ≡ step (o .card) k) where
         stepped : a ≡ step (decode s) k
         stepped = e ∙ ap (λ (x : Card). step x k) card-opened
 
         number-stepped : a .number ≡ bytesNumber (length out) s k
         unfolding step settle bytesNumber
         number-stepped =
-            ap (λ (x : Answer). x .number) stepped ∙ number-before (decode s)
+            ap (λ (x : Answer). x .number) stepped ∙ number-before k (decode s)
             ∙ ap (λ (n : ℕ). before n (callNumber (decode s) k)) (sym number-read)
             ∙ long-enough cardLength (length out) (before (readNumber s) (callNumber (decode s) k)) opened-room
 

@@ -16,14 +16,15 @@ use Rattle.octets.specs.Octets.{bytesOf, splice}
 use Rattle.octets.proofs.OctetLaws.{Bytes, splice-all}
 use Rattle.mark.specs.Mark.{vec}
 use Rattle.mark.proofs.MarkLaws.{accepted-within}
+use Rattle.layout.specs.Layout.{Fields, run, three, vectorAt, firstTwelve, spliced, headed}
+use Rattle.layout.proofs.LayoutLaws.{widths, total, length-run, length-head, splice-run, splice-three, splice-head}
+use Rattle.layout.proofs.RunLaws.{fieldsAt, Ranged, HeadOf, signed-size, ranged-three, read-run, write-run, read-head, write-head}
+use Rattle.head.proofs.HeadLaws.{epoch-small, site-nine}
 use Rattle.card.specs.declared.Card.{Card}
 use Rattle.card.specs.Checks.{tideFits, checks, cardNumber}
-use Rattle.card.proofs.CheckLaws.{Passed, passed, epoch-small, velocity-small, vector-small}
-use Rattle.card.proofs.ValidLaws.{site-nine, position-size}
+use Rattle.card.proofs.CheckLaws.{Passed, passed, velocity-small, vector-small}
+use Rattle.card.proofs.ValidLaws.{position-size}
 use Rattle.codec.specs.Codec.{cardLength, cardFields, encode, decode, readNumber, readCard, writeNumber, written}
-use Rattle.codec.specs.Layout.{Fields, run, three, vectorAt, head, spliced, headed}
-use Rattle.codec.proofs.LayoutLaws.{widths, total, length-run, length-head, splice-run, splice-three, splice-head}
-use Rattle.codec.proofs.RunLaws.{fieldsAt, Ranged, HeadOf, signed-size, ranged-three, read-run, write-run, read-head, write-head}
 
 -- ---- the card's fields
 
@@ -61,7 +62,7 @@ widths-card c = refl
 pub length-encode : (c : Card) → length (c .site) ≡ 9 → length (encode c) ≡ cardLength
 unfolding encode cardFields
 length-encode c e =
-    length-append (head (c .site) (c .frame) (c .tide)) (run (cardFields c))
+    length-append (firstTwelve (c .site) (c .frame) (c .tide)) (run (cardFields c))
     ∙ ap₂ (λ (a b : ℕ). a + b) (length-head (c .site) (c .frame) (c .tide) e) (length-run (cardFields c))
 
 -- the steps of the code, one field after the other

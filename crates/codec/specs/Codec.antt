@@ -7,11 +7,11 @@ use lib.ListN.{length, getD, take}
 use Rattle.refusal.specs.Refusal.{first}
 use Rattle.refusal.specs.Outputs.{kept}
 use Rattle.octets.specs.Octets.{signedAt}
+use Rattle.layout.specs.Layout.{Fields, run, three, vectorAt, firstTwelve}
 use Rattle.card.specs.declared.Card.{Card}
 use Rattle.card.specs.declared.Answer.{Answer}
 use Rattle.card.specs.Checks.{checks}
 use Rattle.card.specs.Zero.{zeroCard}
-use Rattle.codec.specs.Layout.{Fields, run, three, vectorAt, head}
 
 -- the card's length in bytes
 abbrev pub cardLength : ℕ
@@ -22,7 +22,7 @@ unfoldable pub cardFields : Card → Fields
 cardFields c = (4, c .epoch) ∷ three 4 (c .mark) (three 4 (c .velocity) (three 8 (c .position) (three 8 (c .solid) [])))
 
 unfoldable pub encode : Card → List ℕ
-encode c = head (c .site) (c .frame) (c .tide) ++ run (cardFields c)
+encode c = firstTwelve (c .site) (c .frame) (c .tide) ++ run (cardFields c)
 
 unfoldable pub decode : List ℕ → Card
 decode s =

@@ -1,5 +1,4 @@
--- The card's bytes: the layout, reading and writing, a call from bytes to bytes.
-pub mod Layout
+-- The card's bytes: reading and writing, a call from bytes to bytes.
 pub mod Codec
 pub mod Bytes
 pub mod Opened

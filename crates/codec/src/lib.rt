@@ -9,7 +9,6 @@ use card::Call;
 use card::Card;
 
 pub mod bytes;
-pub mod layout;
 mod record;
 
 // The length of a card's record, bytes.

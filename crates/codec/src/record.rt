@@ -4,7 +4,6 @@ ghost use lib.ListN.{length};
 ghost use Rattle.codec.specs.Codec as C;
 ghost use Rattle.codec.specs.Opened as O;
 use crate::CARD_LENGTH;
-use crate::layout;
 use card::Answer;
 use card::Card;
 

@@ -10,7 +10,7 @@ use lib.ListN.{length}
 use Rattle.refusal.specs.Refusal.{first}
 use Rattle.refusal.proofs.OutputLaws.{one, keeps, takes}
 use Rattle.refusal.proofs.RefusalLaws.{onward, stays, wrong-length, past-length}
-use Rattle.card.specs.State.{stateOf}
+use Rattle.head.specs.State.{stateOf}
 use Rattle.card.specs.declared.Card.{Card}
 use Rattle.card.specs.Checks.{checks, cardNumber}
 use Rattle.card.specs.Zero.{zeroCard, refusedWith}
@@ -56,13 +56,13 @@ export-taken c n k l e z h =
     ∙ sym (onward (checks true c) ((12, eqb (stateOf (c .tide)) 2) ∷ []) (positive-checks true c) (sym e ∙ z))
     ∙ later c n l
 
-pub kept-field : (c : Card) (out : List ℕ) (n : ℕ) → n ≡ exportNumber c (length out) → (n ≡ 0 → ⊥) → out ≡ exported c out
+pub kept-field : (c : Card) (out : List ℕ) (n : ℕ) → n ≡ exportNumber c (length out) → (n ≡ 0 → ⊥) → (n ≡ exportNumber c (length out)) × (out ≡ exported c out)
 unfolding exported
-kept-field c out n e h = keeps n (exportNumber c (length out)) (fieldOf c) out e h
+kept-field c out n e h = (e, keeps n (exportNumber c (length out)) (fieldOf c) out e h)
 
-pub put-field : (c : Card) (out : List ℕ) → 0 ≡ exportNumber c (length out) → fieldOf c ≡ exported c out
+pub put-field : (c : Card) (out t : List ℕ) → 0 ≡ exportNumber c (length out) → t ≡ fieldOf c → (0 ≡ exportNumber c (length out)) × (t ≡ exported c out)
 unfolding exported
-put-field c out e = takes 0 (exportNumber c (length out)) (fieldOf c) out e refl
+put-field c out t e f = (e, f ∙ takes 0 (exportNumber c (length out)) (fieldOf c) out e refl)
 
 -- ---- the field edition, read
 

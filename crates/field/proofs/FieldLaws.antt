@@ -22,15 +22,17 @@ use Rattle.mark.specs.Ranges.{Within}
 use Rattle.mark.proofs.LengthLaws.{vec≡}
 use Rattle.mark.proofs.MarkLaws.{accepted-within}
 use Rattle.mark.proofs.SizeLaws.{sized-is, is-sized}
+use Rattle.layout.specs.Layout.{Fields, three}
+use Rattle.layout.proofs.RunLaws.{Ranged, signed-size, ranged-three}
 use Rattle.frames.specs.Frame.{knownFrame}
-use Rattle.card.specs.State.{stateOf}
+use Rattle.head.specs.State.{stateOf}
+use Rattle.head.specs.Head.{siteShape, epochFits}
+use Rattle.head.proofs.HeadLaws.{epoch-small, site-nine}
+use Rattle.head.proofs.StateLaws.{low-fits}
 use Rattle.card.specs.declared.Card.{Card}
-use Rattle.card.specs.Checks.{siteShape, isZero, tideFits, epochFits, velocityFits, fromMark, positionFits, vectorFits, checks, cardNumber}
-use Rattle.card.proofs.CheckLaws.{Passed, passed, passed-number, epoch-small, velocity-small, offset-small}
-use Rattle.card.proofs.StateLaws.{low-fits}
-use Rattle.card.proofs.ValidLaws.{tide-low, site-nine}
-use Rattle.codec.specs.Layout.{Fields, three}
-use Rattle.codec.proofs.RunLaws.{Ranged, signed-size, ranged-three}
+use Rattle.card.specs.Checks.{isZero, tideFits, velocityFits, fromMark, positionFits, vectorFits, checks, cardNumber}
+use Rattle.card.proofs.CheckLaws.{Passed, passed, passed-number, velocity-small, offset-small}
+use Rattle.card.proofs.ValidLaws.{tide-low}
 use Rattle.field.specs.declared.record.Opened.{Opened}
 use Rattle.field.specs.Field.{fieldLength, roundedBy, offsetOf, speedOf, fieldOf, openedOf, zeroBytes, openedChecks, fieldNumber, expandedOf, expandCard, exportNumber, exported}
 use Rattle.field.proofs.PackLaws.{openedFields, packed, taken, field-packed, length-packed, opened-packed, zeros-packed, packed-opened}

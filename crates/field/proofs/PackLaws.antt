@@ -13,10 +13,10 @@ use Rattle.algebra.proofs.BoolLaws.{and-left, and-right}
 use Rattle.octets.specs.Octets.{bytesOf, splice}
 use Rattle.octets.proofs.OctetLaws.{Bytes, splice-all, splice-append}
 use Rattle.mark.specs.Mark.{vec}
+use Rattle.layout.specs.Layout.{Fields, run, three, vectorAt, firstTwelve, spliced, headed}
+use Rattle.layout.proofs.LayoutLaws.{length-run, length-head, splice-run, splice-three, splice-head}
+use Rattle.layout.proofs.RunLaws.{fieldsAt, Ranged, HeadOf, read-run, read-past, write-run, read-head, write-head}
 use Rattle.card.specs.declared.Card.{Card}
-use Rattle.codec.specs.Layout.{Fields, run, three, vectorAt, head, spliced, headed}
-use Rattle.codec.proofs.LayoutLaws.{length-run, length-head, splice-run, splice-three, splice-head}
-use Rattle.codec.proofs.RunLaws.{fieldsAt, Ranged, HeadOf, read-run, read-past, write-run, read-head, write-head}
 use Rattle.field.specs.declared.record.Opened.{Opened}
 use Rattle.field.specs.Field.{fieldLength, offsetOf, speedOf, fieldOf, openedOf, zeroBytes}
 
@@ -31,7 +31,7 @@ ends = 0 ∷ 0 ∷ []
 
 -- what is held, as bytes
 unfoldable pub packed : Opened → List ℕ
-packed f = head (f .site) (f .frame) (f .tide) ++ (run (openedFields f) ++ ends)
+packed f = firstTwelve (f .site) (f .frame) (f .tide) ++ (run (openedFields f) ++ ends)
 
 -- what an export holds of a card
 unfoldable pub taken : Card → Opened
@@ -53,7 +53,7 @@ field-packed c = refl
 pub length-packed : (f : Opened) → length (f .site) ≡ 9 → length (packed f) ≡ fieldLength
 unfolding packed
 length-packed f e =
-    length-append (head (f .site) (f .frame) (f .tide)) (run (openedFields f) ++ ends)
+    length-append (firstTwelve (f .site) (f .frame) (f .tide)) (run (openedFields f) ++ ends)
     ∙ ap₂ (λ (a b : ℕ). a + b)
     (length-head (f .site) (f .frame) (f .tide) e)
     (length-append (run (openedFields f)) ends ∙ ap (λ (k : ℕ). k + 2) (length-run (openedFields f)))

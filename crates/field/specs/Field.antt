@@ -10,12 +10,13 @@ use Rattle.refusal.specs.Outputs.{kept}
 use Rattle.octets.specs.Octets.{signedAt}
 use Rattle.mark.specs.declared.Vec3.{Vec3}
 use Rattle.mark.specs.Mark.{nowhere, each, plus, metre, sized, scaled}
+use Rattle.layout.specs.Layout.{run, three, vectorAt, firstTwelve}
+use Rattle.head.specs.State.{stateOf}
+use Rattle.head.specs.Head.{headChecks}
 use Rattle.card.specs.declared.Card.{Card}
 use Rattle.card.specs.declared.Answer.{Answer}
-use Rattle.card.specs.State.{stateOf}
-use Rattle.card.specs.Checks.{headChecks, fromMark, checks}
+use Rattle.card.specs.Checks.{fromMark, checks}
 use Rattle.card.specs.Zero.{zeroCard}
-use Rattle.codec.specs.Layout.{run, three, vectorAt, head}
 use Rattle.field.specs.declared.record.Opened.{Opened}
 use Rattle.numbers.specs.Near.{near}
 
@@ -36,7 +37,7 @@ speedOf c = roundedBy 100 (c .velocity)
 -- bytes 28-39 offset, 40-45 velocity at 16 bits, 46-47 zero
 unfoldable pub fieldOf : Card → List ℕ
 fieldOf c =
-    head (c .site) (c .frame) (c .tide)
+    firstTwelve (c .site) (c .frame) (c .tide)
     ++ (run ((4, c .epoch) ∷ three 4 (c .mark) (three 4 (offsetOf c) (three 2 (speedOf c) []))) ++ (0 ∷ 0 ∷ []))
 
 -- an exporter's number: its buffer's length first of all, then the card's, then 12 with solid tide on

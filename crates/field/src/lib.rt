@@ -5,7 +5,7 @@ ghost use Rattle.field.specs.Field as F;
 ghost use Rattle.field.specs.MetresOut as M;
 use card::Answer;
 use card::Card;
-use card::state::state_of;
+use head::state::state_of;
 
 mod record;
 

@@ -11,7 +11,6 @@ ghost use Rattle.card.specs.Checks as K;
 ghost use Rattle.field.specs.Field as F;
 ghost use Rattle.field.specs.MetresOut as O;
 use card::Card;
-use codec::layout;
 use mark::Vec3;
 use mark::sized;
 
@@ -104,9 +103,9 @@ pub fn opened_refusal(f: Opened, zeros: bool) -> u32
 {
     let site = f.site;
     let fits = fourth_fits(zeros, f.tide);
-    let head = card::check_head(site, f.frame, fits, f.epoch, f.mark);
-    if head != 0 {
-        return head;
+    let number = head::check_head(site, f.frame, fits, f.epoch, f.mark);
+    if number != 0 {
+        return number;
     }
     if !sized(f.speed, 5000) {
         return 7;

@@ -15,9 +15,9 @@ use Rattle.numbers.proofs.NearLaws.{near-bound}
 use Rattle.mark.specs.declared.Vec3.{Vec3}
 use Rattle.mark.specs.Mark.{sized}
 use Rattle.mark.specs.Ranges.{Within}
-use Rattle.mark.proofs.SizeLaws.{sized-is}
+use Rattle.mark.proofs.SizeLaws.{sized-is, plus-within, minus-within, scaled-within}
 use Rattle.frames.specs.declared.rows.Row.{Row}
-use Rattle.frames.specs.Frame.{itrf2008, rows, rowOf, offset, drift, frameA, frameB}
+use Rattle.frames.specs.Frame.{itrf2008, rows, rowOf, offset, drift, frameA, frameB, frameAt, frameShift, frameGain}
 
 -- ---- the rows: one test over the table
 
@@ -104,3 +104,18 @@ frame-b-within g m w =
       y = drift-bound (rowOf g .trate .y) (rowOf g .drate) (m .y) (r .trate .y) (r .drate) (w .y);
       z = drift-bound (rowOf g .trate .z) (rowOf g .drate) (m .z) (r .trate .z) (r .drate) (w .z);
     }
+
+-- ---- what a card gains, at an epoch in its range
+
+pub gain-within : (f g : ℕ) (m : Vec3) → Within 6400000 m → Within (2000000 + 2000000) (frameGain f g m)
+unfolding frameGain
+gain-within f g m w = minus-within (frame-b-within g m w) (frame-b-within f m w)
+
+module _ (epoch : ℤ) (m : Vec3) (w : Within 6400000 m) (h : natAbs epoch ≤ 146100) where
+  pub at-within : (g : ℕ) → Within (2500000000 + 146100 * 2000000) (frameAt g m epoch)
+  unfolding frameAt
+  at-within g = plus-within (frame-a-within g m w) (scaled-within epoch h (frame-b-within g m w))
+
+  pub shift-within : (f g : ℕ) → Within (2500000000 + 146100 * 2000000 + (2500000000 + 146100 * 2000000)) (frameShift f g epoch m)
+  unfolding frameShift
+  shift-within f g = minus-within (at-within g) (at-within f)

@@ -14,11 +14,11 @@ use Rattle.frames.specs.Frame.{frameA, frameB, frameAt, frameShift, frameGain}
 use Rattle.tides.specs.Permanent.{permanent}
 use Rattle.tides.specs.Bodies.{moonOf, sunOf}
 use Rattle.tides.specs.Tide.{tide}
+use Rattle.head.specs.State.{stateOf, withState}
+use Rattle.head.proofs.StateLaws.{state-with}
 use Rattle.card.specs.declared.Card.{Card}
 use Rattle.card.specs.Calls.{Call, move, frame, meanOn, meanOff, solidOn, solidOff, with-position, moved, reframed, next, own, callNumber, step}
 use Rattle.card.proofs.CheckLaws.{Passed, passed}
-use Rattle.card.specs.State.{stateOf, withState}
-use Rattle.card.proofs.StateLaws.{state-with}
 use Rattle.card.proofs.ValidLaws.{solid-none}
 use Rattle.card.proofs.CallLaws.{card-accepted, own-accepted, byte-is}
 use Rattle.laws.specs.Lists.{Tides, tidesOf, moveOf, gain, meanShift, inForce, bare, steady, formula}

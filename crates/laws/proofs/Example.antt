@@ -10,9 +10,10 @@ use Rattle.mark.specs.Mark.{vec, nowhere, squares, lengthOf, marked, plus, size
 use Rattle.frames.specs.Frame.{knownFrame, rowOf, offset, drift, frameA, frameB, frameAt, frameShift, frameGain}
 use Rattle.tides.specs.Direction.{times, unit, legendre}
 use Rattle.tides.specs.Permanent.{s2, small, radial, north, down, across, along, permanentOf, permanent}
+use Rattle.head.specs.State.{stateOf, withState, stateFits}
+use Rattle.head.specs.Head.{digit, shapeAt, shapeFrom, siteShape, epochFits}
 use Rattle.card.specs.declared.Card.{Card}
-use Rattle.card.specs.State.{stateOf, withState, stateFits}
-use Rattle.card.specs.Checks.{digit, shapeAt, shapeFrom, siteShape, isZero, tideFits, epochFits, velocityFits, fromMark, positionFits, vectorFits, checks, cardNumber, Valid}
+use Rattle.card.specs.Checks.{isZero, tideFits, velocityFits, fromMark, positionFits, vectorFits, checks, cardNumber, Valid}
 use Rattle.card.specs.Calls.{Call, move, frame, meanOn, meanOff, moved, reframed, next, own, callNumber, settle, step}
 use Rattle.card.specs.Sample.{at}
 use Rattle.field.specs.Field.{roundedBy, offsetOf, speedOf, expandedOf}

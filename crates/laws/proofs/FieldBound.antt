@@ -7,11 +7,11 @@ use lib.Dec.{eqb}
 use lib.IntN.{natAbs}
 use Rattle.mark.specs.Ranges.{Within}
 use Rattle.mark.specs.Mark.{minus}
+use Rattle.head.specs.State.{stateOf}
 use Rattle.card.specs.declared.Card.{Card}
 use Rattle.card.specs.Checks.{Valid}
 use Rattle.card.specs.Calls.{Call}
 use Rattle.card.proofs.CheckLaws.{valid-passed}
-use Rattle.card.specs.State.{stateOf}
 use Rattle.card.proofs.ValidLaws.{solid-none}
 use Rattle.laws.specs.Lists.{run, net, Accepted}
 use Rattle.laws.specs.TwoCards.{Alike, halfUnit, halfSpeed, fieldBound}

@@ -9,7 +9,7 @@ use Rattle.algebra.proofs.IntLaws.{abs-swap}
 use Rattle.mark.specs.declared.Vec3.{Vec3}
 use Rattle.mark.specs.Ranges.{Within}
 use Rattle.mark.specs.Mark.{minus}
-use Rattle.card.specs.State.{stateOf}
+use Rattle.head.specs.State.{stateOf}
 use Rattle.card.specs.declared.Card.{Card}
 use Rattle.card.specs.declared.Answer.{Answer}
 use Rattle.card.specs.Checks.{cardNumber, Valid}

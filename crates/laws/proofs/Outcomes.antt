@@ -6,12 +6,15 @@ use Rattle.laws.specs.OneOutcome.{OneOutcome, OneShown}
 use Rattle.numbers.proofs as numbers
 use Rattle.octets.proofs as octets
 use Rattle.mark.proofs as mark
+use Rattle.layout.proofs as layout
 use Rattle.frames.proofs as frames
 use Rattle.tides.proofs as tides
+use Rattle.head.proofs as head
 use Rattle.card.proofs as card
 use Rattle.codec.proofs as codec
 use Rattle.field.proofs as field
 use Rattle.catalogue.proofs as catalogue
+use Rattle.listing.proofs as listing
 use Rattle.netvjesha.proofs as netvjesha
 
 -- both equal what the promise says
@@ -68,10 +71,10 @@ solid-tide-one κs a z z′ w w′ p q i = (same p q i, w)
 pub read-one : OneOutcome 1 codec.read.Kinds.ps codec.read.Kinds.r codec.read.Reads.Learnt
 read-one κs a z z′ w w′ p q i = (same p q i, w)
 
-pub site-of-one : OneOutcome 1 codec.layout.site_of.Kinds.ps codec.layout.site_of.Kinds.r codec.layout.site_of.Reads.Learnt
+pub site-of-one : OneOutcome 1 layout.site_of.Kinds.ps layout.site_of.Kinds.r layout.site_of.Reads.Learnt
 site-of-one κs a z z′ w w′ p q i = (same p q i, w)
 
-pub vector-at-one : OneOutcome 1 codec.layout.vector_at.Kinds.ps codec.layout.vector_at.Kinds.r codec.layout.vector_at.Reads.Learnt
+pub vector-at-one : OneOutcome 1 layout.vector_at.Kinds.ps layout.vector_at.Kinds.r layout.vector_at.Reads.Learnt
 vector-at-one κs a z z′ w w′ p q i = (same p q i, w)
 
 pub codec-check-one : OneOutcome 1 codec.check.Kinds.ps codec.check.Kinds.r codec.check.Reads.Learnt
@@ -110,22 +113,22 @@ solid-on-one κs a z z′ w w′ p q i = (same p q i, w)
 pub solid-off-one : OneOutcome 0 card.Card.solid_off.Kinds.ps card.Card.solid_off.Kinds.r card.Card.solid_off.Reads.Learnt
 solid-off-one κs a z z′ w w′ p q i = (same p q i, w)
 
-pub check-head-one : OneOutcome 0 card.check_head.Kinds.ps card.check_head.Kinds.r card.check_head.Reads.Learnt
+pub check-head-one : OneOutcome 0 head.check_head.Kinds.ps head.check_head.Kinds.r head.check_head.Reads.Learnt
 check-head-one κs a z z′ w w′ p q i = (same p q i, w)
 
 pub refused-one : OneOutcome 0 card.refused.Kinds.ps card.refused.Kinds.r card.refused.Reads.Learnt
 refused-one κs a z z′ w w′ p q i = (same p q i, w)
 
-pub epoch-fits-one : OneOutcome 0 card.epoch_fits.Kinds.ps card.epoch_fits.Kinds.r card.epoch_fits.Reads.Learnt
+pub epoch-fits-one : OneOutcome 0 head.epoch_fits.Kinds.ps head.epoch_fits.Kinds.r head.epoch_fits.Reads.Learnt
 epoch-fits-one κs a z z′ w w′ p q i = (same p q i, w)
 
-pub state-of-one : OneOutcome 0 card.state.state_of.Kinds.ps card.state.state_of.Kinds.r card.state.state_of.Reads.Learnt
+pub state-of-one : OneOutcome 0 head.state.state_of.Kinds.ps head.state.state_of.Kinds.r head.state.state_of.Reads.Learnt
 state-of-one κs a z z′ w w′ p q i = (same p q i, w)
 
-pub with-state-one : OneOutcome 0 card.state.with_state.Kinds.ps card.state.with_state.Kinds.r card.state.with_state.Reads.Learnt
+pub with-state-one : OneOutcome 0 head.state.with_state.Kinds.ps head.state.with_state.Kinds.r head.state.with_state.Reads.Learnt
 with-state-one κs a z z′ w w′ p q i = (same p q i, w)
 
-pub is-site-one : OneOutcome 1 card.is_site.Kinds.ps card.is_site.Kinds.r card.is_site.Reads.Learnt
+pub is-site-one : OneOutcome 1 head.is_site.Kinds.ps head.is_site.Kinds.r head.is_site.Reads.Learnt
 is-site-one κs a z z′ w w′ p q i = (same p q i, w)
 
 pub find-number-one : OneOutcome 2 catalogue.find_number.Kinds.ps catalogue.find_number.Kinds.r catalogue.find_number.Reads.Learnt
@@ -160,10 +163,10 @@ put-signed-one κs a z z′ w w′ p q i = (z, (same p q i, w .1))
 pub put-bytes-one : OneOutcome 2 octets.put_bytes.Kinds.ps octets.put_bytes.Kinds.r octets.put_bytes.Reads.Learnt
 put-bytes-one κs a z z′ w w′ p q i = (z, (same p q i, w .1))
 
-pub put-vector-one : OneOutcome 1 codec.layout.put_vector.Kinds.ps codec.layout.put_vector.Kinds.r codec.layout.put_vector.Reads.Learnt
+pub put-vector-one : OneOutcome 1 layout.put_vector.Kinds.ps layout.put_vector.Kinds.r layout.put_vector.Reads.Learnt
 put-vector-one κs a z z′ w w′ p q i = (z, (same p q i, w .1))
 
-pub put-head-one : OneOutcome 1 codec.layout.put_head.Kinds.ps codec.layout.put_head.Kinds.r codec.layout.put_head.Reads.Learnt
+pub put-head-one : OneOutcome 1 layout.put_head.Kinds.ps layout.put_head.Kinds.r layout.put_head.Reads.Learnt
 put-head-one κs a z z′ w w′ p q i = (z, (same p q i, w .1))
 
 pub series-one : OneOutcome 2 tides.series.Kinds.ps tides.series.Kinds.r tides.series.Reads.Learnt
@@ -196,7 +199,7 @@ call-bytes-one κs a z z′ w w′ p q i = (same (p .0) (q .0) i, (w .0, (w .1 .
 pub export-one : OneOutcome 1 field.export.Kinds.ps field.export.Kinds.r field.export.Reads.Learnt
 export-one κs a z z′ w w′ p q i = (same (p .0) (q .0) i, (w .0, (same (p .1) (q .1) i, w .1 .1)))
 
-pub line-one : OneOutcome 2 catalogue.line.Kinds.ps catalogue.line.Kinds.r catalogue.line.Reads.Learnt
+pub line-one : OneOutcome 2 listing.line.Kinds.ps listing.line.Kinds.r listing.line.Reads.Learnt
 line-one κs a z z′ w w′ p q i = (same (p .0) (q .0) i, (w .0, (same (p .1) (q .1) i, w .1 .1)))
 
 pub nv-move-one : OneOutcome 2 netvjesha.nv_move.Kinds.ps netvjesha.nv_move.Kinds.r netvjesha.nv_move.Reads.Learnt

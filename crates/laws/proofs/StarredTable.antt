@@ -10,8 +10,9 @@ use Rattle.frames.specs.Frame.{knownFrame, rowOf, offset, drift, frameA, frameB
 use Rattle.tides.specs.Direction.{times, unit, legendre}
 use Rattle.tides.specs.Permanent.{s2, small, radial, north, down, across, along, permanentOf, permanent}
 use Rattle.tides.specs.Tide.{nearness, strength, cosine, height, upward, sideways, component, standing, degreeTwo, partOf}
-use Rattle.card.specs.State.{stateOf, withState, stateFits}
-use Rattle.card.specs.Checks.{digit, shapeAt, shapeFrom, siteShape, isZero, tideFits, epochFits, velocityFits, fromMark, positionFits, vectorFits, checks}
+use Rattle.head.specs.State.{stateOf, withState, stateFits}
+use Rattle.head.specs.Head.{digit, shapeAt, shapeFrom, siteShape, epochFits}
+use Rattle.card.specs.Checks.{isZero, tideFits, velocityFits, fromMark, positionFits, vectorFits, checks}
 use Rattle.card.specs.Calls.{moved, next, own, callNumber, settle, step}
 use Rattle.field.specs.Field.{roundedBy}
 use Rattle.laws.specs.Starred.{Starred}

@@ -5,8 +5,6 @@ use mathlib.Core.List.{List, [], _∷_}
 use lib.IntN.{ℤ, _+ℤ_}
 use Rattle.mark.specs.Mark.{plus, minus, scaled}
 use Rattle.frames.specs.Frame.{frameB, frameAt}
-use Rattle.tides.specs.Bodies.{moonOf, sunOf}
-use Rattle.tides.specs.Tide.{tide}
 use Rattle.card.specs.declared.Card.{Card}
 use Rattle.card.specs.Calls.{Call, move, frame, meanOn, meanOff, solidOn, solidOff, moved, reframed, next, callNumber, step}
 use Rattle.laws.specs.Lists.{tidesOf, tidesAfter, run, net, Accepted, inForce, bare, steady}

@@ -11,8 +11,8 @@ use Rattle.frames.specs.Frame.{frameB, frameAt}
 use Rattle.tides.specs.Permanent.{permanent}
 use Rattle.tides.specs.Bodies.{moonOf, sunOf}
 use Rattle.tides.specs.Tide.{tide}
+use Rattle.head.specs.State.{stateOf, withState}
 use Rattle.card.specs.declared.Card.{Card}
-use Rattle.card.specs.State.{stateOf, withState}
 use Rattle.card.specs.Calls.{Call, move, frame, meanOn, meanOff, solidOn, solidOff, callNumber, step}
 
 -- the calls one by one: a refused call hands on the card that it was handed

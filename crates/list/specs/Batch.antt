@@ -1,7 +1,7 @@
 -- A turn of the listing program: so many parts, the bytes that they have at most, and the bytes of their lines.
 use Prim.Native.Nat.{ℕ, _*_}
 use Rattle.codec.specs.Codec.{cardLength}
-use Rattle.catalogue.specs.Line.{lineMost}
+use Rattle.listing.specs.Line.{lineMost}
 
 abbrev pub partsMost : ℕ
 partsMost = 512

@@ -4,10 +4,10 @@ ghost use Prim.Native.Nat.{_+_, _≤_, min};
 ghost use lib.ListN.{length};
 ghost use Rattle.codec.specs.Codec as C;
 ghost use Rattle.list.specs.Batch as B;
-use catalogue::LINE_MOST;
 use codec::CARD_LENGTH;
 use libc::STDIN_FILENO;
 use libc::STDOUT_FILENO;
+use listing::LINE_MOST;
 
 // So many parts a turn, the bytes that they have at most, and the bytes of their lines.
 const PARTS: usize = 512;
@@ -46,7 +46,7 @@ fn fill(parts: &[u8], text: &mut [u8]) -> usize
     let mut at = 0usize;
     while at < parts.len() {
         let end = part_end(parts, at);
-        filled += catalogue::line(&parts[at..end], &mut text[filled..]);
+        filled += listing::line(&parts[at..end], &mut text[filled..]);
         at = end;
     }
     filled

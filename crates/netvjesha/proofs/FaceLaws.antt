@@ -1,11 +1,11 @@
 -- What the face answers, from the output's length, the record that was read and the call's answer. An accepted call's card is always written.
 use mathlib.Core.Path.{_≡_, refl, sym, ap, _∙_}
-use mathlib.Core.Bool.{true, not, cond}
+use mathlib.Core.Bool.{Bool, true, false, not, cond}
 use mathlib.Core.List.{List, [], _∷_}
 use Prim.Native.Nat.{ℕ, zero, suc, _≤_, _<_}
 use native.Mathlib.Omega.{arith}
 use borrow.Author.Tests.{eq-eqb, ne-eqb, le-leb, lt-leb}
-use lib.Dec.{eqb}
+use lib.Dec.{eqb, leb}
 use lib.ListN.{length}
 use Rattle.refusal.specs.Refusal.{first}
 use Rattle.refusal.specs.Outputs.{before, kept}
@@ -14,9 +14,9 @@ use Rattle.refusal.proofs.OutputLaws.{one, too-short, long-enough, refused-befo
 use Rattle.tides.specs.declared.BodyVector.{BodyVector}
 use Rattle.tides.specs.declared.Body.the-variants.{Moon, Sun}
 use Rattle.tides.specs.Bodies.{paired}
+use Rattle.head.specs.State.{stateOf}
 use Rattle.card.specs.declared.Card.{Card}
 use Rattle.card.specs.declared.Answer.{Answer}
-use Rattle.card.specs.State.{stateOf}
 use Rattle.card.specs.Checks.{checks, cardNumber}
 use Rattle.card.specs.Zero.{zeroCard}
 use Rattle.card.specs.Calls.{solidOn, next, own, callNumber}
@@ -27,6 +27,7 @@ use Rattle.codec.proofs.AnswerLaws.{put-out}
 use Rattle.field.specs.Field.{fieldOf, fieldNumber, openedOf, expandedOf, expandCard, exportNumber, exported, fieldLength}
 use Rattle.field.proofs.FieldLaws.{number-expanded}
 use Rattle.netvjesha.specs.Face.{bodyOf, solidCall, settledNumber, settledOut, exportedNumber, exportedOut, expandedNumber, expandedOut}
+use Rattle.netvjesha.specs.Steps.{labelled}
 
 -- ---- what a read gives
 
@@ -42,6 +43,10 @@ pub card-read : (s : List ℕ) (a : Answer) → a ≡ readCard s → a .number �
 card-read s a e h = ap (λ (x : Answer). x .card) e ∙ taken-read s (sym (number-read s a e) ∙ h)
 
 -- ---- an answer settled
+
+-- refused with n, the output is kept
+pub unchanged : {A : Type 0} (n m : ℕ) (new old : List A) → n ≡ m → (n ≡ 0 → ⊥) → (n ≡ m) × (old ≡ kept m new old)
+unchanged n m new old e h = (e, keeps n m new old e h)
 
 pub settle-refused : (a : Answer) (out : List ℕ) → (a .number ≡ 0 → ⊥) → (a .number ≡ settledNumber a (length out)) × (out ≡ settledOut a out)
 unfolding settledNumber settledOut
@@ -76,26 +81,44 @@ settles (suc n) new old out l h = (
 
 -- ---- labels
 
-pub sun-labelled : (l : ℕ) (v : BodyVector) → l ≡ 1 → Sun v ≡ bodyOf l v
-unfolding bodyOf
-sun-labelled l v h = rw (eq-eqb l 1 h)
-
-pub moon-labelled : (l : ℕ) (v : BodyVector) → (l ≡ 1 → ⊥) → Moon v ≡ bodyOf l v
-unfolding bodyOf
-moon-labelled l v h = rw (ne-eqb l 1 h)
-
 module _ (k l : ℕ) (v w : BodyVector) where
-  pub first-other : 1 < k → solidOn (Moon v) (Moon v) ≡ solidCall k v l w
+  first-other : 1 < k → solidOn (Moon v) (Moon v) ≡ solidCall k v l w
   unfolding solidCall
   first-other h = rw (lt-leb k 1 h)
 
-  pub second-other : k ≤ 1 → 1 < l → solidOn (Moon v) (Moon v) ≡ solidCall k v l w
+  second-other : k ≤ 1 → 1 < l → solidOn (Moon v) (Moon v) ≡ solidCall k v l w
   unfolding solidCall
   second-other g h = rw (le-leb k 1 g, lt-leb l 1 h)
 
-  pub both-labelled : k ≤ 1 → l ≤ 1 → solidOn (bodyOf k v) (bodyOf l w) ≡ solidCall k v l w
-  unfolding solidCall
-  both-labelled g h = rw (le-leb k 1 g, le-leb l 1 h)
+  -- both bodies by their labels are the call
+  pub solid-labelled : solidOn (labelled k l k v v) (labelled k l l v w) ≡ solidCall k v l w
+  unfolding solidCall labelled
+  solid-labelled = go (leb k 1) (leb l 1)
+    where
+      go : (a b : Bool)
+          → solidOn (cond a (cond b (bodyOf k v) (Moon v)) (Moon v)) (cond a (cond b (bodyOf l w) (Moon v)) (Moon v))
+          ≡ cond a (cond b (solidOn (bodyOf k v) (bodyOf l w)) (solidOn (Moon v) (Moon v))) (solidOn (Moon v) (Moon v))
+      go true true = refl
+      go true false = refl
+      go false b = refl
+
+  -- what the step answers, a test at a time
+  module _ (n : ℕ) where
+    pub labelled-first : 1 < k → Moon v ≡ labelled k l n v w
+    unfolding labelled
+    labelled-first h = rw (lt-leb k 1 h)
+
+    pub labelled-second : k ≤ 1 → 1 < l → Moon v ≡ labelled k l n v w
+    unfolding labelled
+    labelled-second g h = rw (le-leb k 1 g, lt-leb l 1 h)
+
+    pub labelled-sun : k ≤ 1 → l ≤ 1 → n ≡ 1 → Sun w ≡ labelled k l n v w
+    unfolding labelled bodyOf
+    labelled-sun g h e = rw (le-leb k 1 g, le-leb l 1 h, eq-eqb n 1 e)
+
+    pub labelled-moon : k ≤ 1 → l ≤ 1 → (n ≡ 1 → ⊥) → Moon w ≡ labelled k l n v w
+    unfolding labelled bodyOf
+    labelled-moon g h e = rw (le-leb k 1 g, le-leb l 1 h, ne-eqb n 1 e)
 
 two-moons : (c : Card) (v : BodyVector) → cardNumber c ≡ 0 → callNumber c (solidOn (Moon v) (Moon v)) ≡ first ((12, not (eqb (stateOf (c .tide)) 0)) ∷ (17, true) ∷ [])
 unfolding callNumber cardNumber own first paired
@@ -113,16 +136,13 @@ label-refused-2 c k l v w h g f = sym (ap (callNumber c) (second-other k l v w g
 module _ (s out : List ℕ) where
   pub export-short : (length out ≡ fieldLength → ⊥) → (1 ≡ exportedNumber (length out) s) × (out ≡ exportedOut out s)
   unfolding exportedNumber exportedOut
-  export-short h =
-      let e = too-short fieldLength (length out) (before (readNumber s) (exportNumber (decode s) (length out))) h in
-      (e, keeps 1 (exportedNumber (length out) s) (fieldOf (decode s)) out e one)
+  export-short h = unchanged 1 _ _ out (too-short fieldLength (length out) (before (readNumber s) (exportNumber (decode s) (length out))) h) one
 
   pub export-unread : (a : Answer) → length out ≡ fieldLength → a ≡ readCard s → (a .number ≡ 0 → ⊥) → (a .number ≡ exportedNumber (length out) s) × (out ≡ exportedOut out s)
   unfolding exportedNumber exportedOut
   export-unread a l r h =
       let n = number-read s a r in
-      let e = n ∙ refused-before (readNumber s) (exportNumber (decode s) (length out)) (λ z. h (n ∙ z)) ∙ long-enough fieldLength (length out) (before (readNumber s) (exportNumber (decode s) (length out))) l in
-      (e, keeps (a .number) (exportedNumber (length out) s) (fieldOf (decode s)) out e h)
+      unchanged (a .number) _ _ out (n ∙ refused-before (readNumber s) (exportNumber (decode s) (length out)) (λ z. h (n ∙ z)) ∙ long-enough fieldLength (length out) _ l) h
 
   export-is : length out ≡ fieldLength → readNumber s ≡ 0 → exportNumber (decode s) (length out) ≡ exportedNumber (length out) s
   unfolding exportedNumber
@@ -141,9 +161,7 @@ module _ (s out : List ℕ) where
 
   pub expand-short : (length out ≡ cardLength → ⊥) → (1 ≡ expandedNumber (length out) s) × (out ≡ expandedOut out s)
   unfolding expandedNumber expandedOut
-  expand-short h =
-      let e = too-short cardLength (length out) (fieldNumber s) h in
-      (e, keeps 1 (expandedNumber (length out) s) (encode (expandedOf (openedOf s))) out e one)
+  expand-short h = unchanged 1 _ _ out (too-short cardLength (length out) (fieldNumber s) h) one
 
   expand-is : length out ≡ cardLength → fieldNumber s ≡ expandedNumber (length out) s
   unfolding expandedNumber

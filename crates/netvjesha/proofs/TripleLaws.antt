@@ -10,7 +10,7 @@ use lib.Ieee.{Float}
 use mir.Syntax.{w64}
 use mir.Val.{SFits, toZ, ofZ}
 use mir.Facts.{toZ-ofZ}
-use Rattle.refusal.proofs.OutputLaws.{one, too-short, long-enough, keeps, takes}
+use Rattle.refusal.proofs.OutputLaws.{one, too-short, long-enough, takes}
 use Rattle.mark.specs.declared.Vec3.{Vec3}
 use Rattle.mark.specs.Mark.{vec, marked, markNumber}
 use Rattle.mark.proofs.MarkLaws.{mark-accepted}
@@ -22,7 +22,7 @@ use Rattle.codec.specs.Codec.{decode, readNumber, readCard}
 use Rattle.field.specs.declared.Metres.{Metres}
 use Rattle.field.specs.MetresOut.{metresOf}
 use Rattle.netvjesha.specs.Face.{threeMetres, metresNumber, metresOut, permanentNumber, permanentOut}
-use Rattle.netvjesha.proofs.FaceLaws.{number-read, card-read}
+use Rattle.netvjesha.proofs.FaceLaws.{number-read, card-read, unchanged}
 
 -- three numbers that fit 64 bits come back as they went in
 pub back : {x y z : ℤ} → SFits w64 x → SFits w64 y → SFits w64 z → vec (toZ w64 (ofZ w64 x)) (toZ w64 (ofZ w64 y)) (toZ w64 (ofZ w64 z)) ≡ vec x y z
@@ -47,9 +47,7 @@ same-three f g h = rw (f, g, h)
 module _ (s : List ℕ) (out : List Float) where
   pub metres-short : (length out ≡ 3 → ⊥) → (1 ≡ metresNumber (length out) s) × (out ≡ metresOut out s)
   unfolding metresNumber metresOut
-  metres-short h =
-      let e = too-short 3 (length out) (readNumber s) h in
-      (e, keeps 1 (metresNumber (length out) s) (threeMetres (metresOf (decode s))) out e one)
+  metres-short h = unchanged 1 _ _ out (too-short 3 (length out) (readNumber s) h) one
 
   metres-is : length out ≡ 3 → readNumber s ≡ metresNumber (length out) s
   unfolding metresNumber
@@ -57,9 +55,7 @@ module _ (s : List ℕ) (out : List Float) where
 
   pub metres-unread : (a : Answer) → length out ≡ 3 → a ≡ readCard s → (a .number ≡ 0 → ⊥) → (a .number ≡ metresNumber (length out) s) × (out ≡ metresOut out s)
   unfolding metresOut
-  metres-unread a l r h =
-      let e = number-read s a r ∙ metres-is l in
-      (e, keeps (a .number) (metresNumber (length out) s) (threeMetres (metresOf (decode s))) out e h)
+  metres-unread a l r h = unchanged (a .number) _ _ out (number-read s a r ∙ metres-is l) h
 
   pub metres-called : (a : Answer) (m : Metres) → length out ≡ 3 → a ≡ readCard s → a .number ≡ 0 → m ≡ metresOf (a .card)
       → (0 ≡ metresNumber (length out) s) × (set (set (set out 0 (m .x)) 1 (m .y)) 2 (m .z) ≡ metresOut out s)
@@ -74,9 +70,7 @@ module _ (s : List ℕ) (out : List Float) where
 module _ (m : Vec3) (out : List ℤ) where
   pub permanent-short : (length out ≡ 3 → ⊥) → (1 ≡ permanentNumber (length out) m) × (out ≡ permanentOut out m)
   unfolding permanentNumber permanentOut
-  permanent-short h =
-      let e = too-short 3 (length out) (markNumber m) h in
-      (e, keeps 1 (permanentNumber (length out) m) (three (permanent m)) out e one)
+  permanent-short h = unchanged 1 _ _ out (too-short 3 (length out) (markNumber m) h) one
 
   permanent-is : length out ≡ 3 → markNumber m ≡ permanentNumber (length out) m
   unfolding permanentNumber
@@ -95,9 +89,7 @@ module _ (m : Vec3) (out : List ℤ) where
 
   pub permanent-unmarked : (s : Shift) → length out ≡ 3 → s ≡ permanentAnswer m → (s .number ≡ 0 → ⊥) → (s .number ≡ permanentNumber (length out) m) × (out ≡ permanentOut out m)
   unfolding permanentOut
-  permanent-unmarked s l r h =
-      let e = number-is s r ∙ permanent-is l in
-      (e, keeps (s .number) (permanentNumber (length out) m) (three (permanent m)) out e h)
+  permanent-unmarked s l r h = unchanged (s .number) _ _ out (number-is s r ∙ permanent-is l) h
 
   pub permanent-called : (s : Shift) (x y z : ℤ) → length out ≡ 3 → s ≡ permanentAnswer m → s .number ≡ 0 → x ≡ s .shift .x → y ≡ s .shift .y → z ≡ s .shift .z
       → (0 ≡ permanentNumber (length out) m) × (set (set (set out 0 x) 1 y) 2 z ≡ permanentOut out m)

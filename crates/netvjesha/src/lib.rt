@@ -10,6 +10,7 @@ ghost use Rattle.codec.specs.Codec as C;
 ghost use Rattle.codec.specs.Bytes as B;
 ghost use Rattle.catalogue.specs.Lookup as K;
 ghost use Rattle.netvjesha.specs.Face as F;
+ghost use Rattle.netvjesha.specs.Steps as P;
 use card::Answer;
 use codec::CARD_LENGTH;
 use codec::bytes;
@@ -29,15 +30,20 @@ fn settle(answer: Answer, out: &mut [u8]) -> u32
     codec::write(answer.card, out)
 }
 
-// 1 a Sun, any other a Moon.
-fn body(label: u8, v: BodyVector) -> Body
-    ensures { λ r. ⌜ r ≡ F.bodyOf label v ⌝ }
+// A body by its label, 1 a Sun and 0 a Moon, where both labels of the call are such. Else a Moon at `none`, and two Moons are no pair.
+fn labelled(la: u8, lb: u8, label: u8, none: BodyVector, v: BodyVector) -> Body
+    ensures { λ r. ⌜ r ≡ P.labelled la lb label none v ⌝ }
 {
-    if label == 1 {
-        Body::Sun(v)
-    } else {
-        Body::Moon(v)
+    if 1 < la {
+        return Body::Moon(none);
     }
+    if 1 < lb {
+        return Body::Moon(none);
+    }
+    if label == 1 {
+        return Body::Sun(v);
+    }
+    Body::Moon(v)
 }
 
 // A number below 256 and a place in one: number + 256 x place, exact below 2^56 places.
@@ -129,13 +135,9 @@ pub extern "C" fn nv_solid_on(
         y: by,
         z: bz,
     };
-    if 1 < la {
-        return bytes::solid_on(s, Body::Moon(v), Body::Moon(v), out);
-    }
-    if 1 < lb {
-        return bytes::solid_on(s, Body::Moon(v), Body::Moon(v), out);
-    }
-    bytes::solid_on(s, body(la, v), body(lb, w), out)
+    let first = labelled(la, lb, la, v, v);
+    let second = labelled(la, lb, lb, v, w);
+    bytes::solid_on(s, first, second, out)
 }
 
 // Writes the field edition of a card, 48 bytes.

@@ -1,11 +1,7 @@
-// Runs the library on the second program's vectors (docs/VECTORS.md): reads a header and a payload a vector, writes a line each.
-use libc::STDIN_FILENO;
-
+// Runs the library on the second program's vectors of records, calls and catalogues, kinds 8 to 17 (docs/VECTORS.md), a line each.
 mod calls;
 mod catalogues;
 mod records;
-mod rounding;
-mod shifts;
 mod text;
 
 // The loop has to end, and nothing says that the input does: it counts down from a number that no run uses up.
@@ -18,39 +14,28 @@ fn main() {
 
 // Reads one vector and writes its line; false where no whole header is left.
 fn answer_one() -> bool {
-    let mut header = [0u8; 8];
-    if io::read_full(STDIN_FILENO, &mut header) < 8 {
-        return false;
-    }
-    let kind = octets::unsigned_at(&header, 0, 1);
-    answer(kind, octets::unsigned_at(&header, 4, 4));
-    true
-}
-
-// Answers a vector whose payload has so many bytes.
-fn answer(kind: u64, length: u64) {
     let mut space = io::large_buffer();
-    let n = text::at_most(length, 65536);
-    answer_in(kind, &mut space[..n]);
+    let v = wire::read(&mut space);
+    if v.more {
+        answer(v.kind, wire::first(&space, v.length));
+        wire::put(b"\n");
+    }
+    v.more
 }
 
-// Reads the payload and writes the vector's line.
-fn answer_in(kind: u64, space: &mut [u8]) {
-    let got = io::read_full(STDIN_FILENO, space);
-    put_answer(kind, text::first(space, got));
-    text::put(b"\n");
-}
-
-fn put_answer(kind: u64, payload: &[u8]) {
-    if kind <= 3 {
-        rounding::answer(kind, payload);
-    } else if kind <= 7 {
-        shifts::answer(kind, payload);
-    } else if kind <= 12 {
-        records::answer(kind, payload);
-    } else if kind == 13 {
-        calls::answer(payload);
-    } else {
-        catalogues::answer(kind, payload);
+// The vector's line but for its end. A kind that is not here gets an empty line.
+fn answer(kind: u64, s: &[u8]) {
+    match kind {
+        8 => records::put_answer(codec::read(s)),
+        9 => records::answer_buffer(s, false),
+        10 => records::answer_buffer(s, true),
+        11 => records::put_answer(field::expand(s)),
+        12 => records::answer_metres(s),
+        13 => calls::answer(s),
+        14 => catalogues::answer_lookup(s),
+        15 => catalogues::answer_reader(s),
+        16 => catalogues::answer_line(s),
+        17 => catalogues::answer_check(s),
+        _ => {}
     }
 }

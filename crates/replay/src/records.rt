@@ -3,36 +3,22 @@ use crate::text;
 use card::Answer;
 use card::Card;
 
-pub fn answer(kind: u64, s: &[u8]) {
-    if kind == 8 {
-        put_answer(codec::read(s));
-    } else if kind == 9 {
-        answer_buffer(s, false);
-    } else if kind == 10 {
-        answer_buffer(s, true);
-    } else if kind == 11 {
-        put_answer(field::expand(s));
-    } else {
-        answer_metres(s);
-    }
-}
-
-fn put_answer(r: Answer) {
-    text::put_number(r.number);
+pub fn put_answer(r: Answer) {
+    wire::put_number(r.number);
     text::put_card(r.card);
 }
 
 // A card written into a lent buffer, as a card or as its field edition.
-fn answer_buffer(s: &[u8], edition: bool) {
+pub fn answer_buffer(s: &[u8], edition: bool) {
     let mut space = [0xEEu8; 200];
-    let n = text::at_most(octets::unsigned_at(s, 0, 4), 200);
-    put_written(raw_card(text::from(s, 4)), edition, &mut space[..n]);
+    let n = wire::at_most(octets::unsigned_at(s, 0, 4), 200);
+    put_written(raw_card(wire::from(s, 4)), edition, &mut space[..n]);
 }
 
 fn put_written(c: Card, edition: bool, out: &mut [u8]) {
     let number = written(c, edition, out);
-    text::put_number(number);
-    text::put_run(out);
+    wire::put_number(number);
+    wire::put_run(out);
 }
 
 fn written(c: Card, edition: bool, out: &mut [u8]) -> u32 {
@@ -42,34 +28,24 @@ fn written(c: Card, edition: bool, out: &mut [u8]) -> u32 {
     codec::write(c, out)
 }
 
-fn answer_metres(s: &[u8]) {
+pub fn answer_metres(s: &[u8]) {
     let r = field::metres_out(raw_card(s));
-    text::put_number(r.number);
+    wire::put_natural(r.number as u64);
     text::put_double(r.x);
-    text::put(b" ");
     text::put_double(r.y);
-    text::put(b" ");
     text::put_double(r.z);
 }
 
 // The card of 115 bytes.
 pub fn raw_card(s: &[u8]) -> Card {
     Card {
-        site: site(s),
-        frame: text::byte_at(s, 9),
-        tide: text::byte_at(s, 10),
+        site: layout::site_of(s),
+        frame: wire::byte_at(s, 9),
+        tide: wire::byte_at(s, 10),
         epoch: octets::signed_at(s, 11, 8),
-        mark: text::vector(text::from(s, 19)),
-        velocity: text::vector(text::from(s, 43)),
-        position: text::vector(text::from(s, 67)),
-        solid: text::vector(text::from(s, 91)),
+        mark: layout::vector_at(s, 19, 8),
+        velocity: layout::vector_at(s, 43, 8),
+        position: layout::vector_at(s, 67, 8),
+        solid: layout::vector_at(s, 91, 8),
     }
-}
-
-fn site(s: &[u8]) -> [u8; 9] {
-    let mut site = [0u8; 9];
-    for i in 0..9usize {
-        site[i] = text::byte_at(s, i);
-    }
-    site
 }

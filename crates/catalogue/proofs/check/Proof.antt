@@ -9,7 +9,6 @@ use lib.ListN.{length, take, drop}
 use Rattle.refusal.specs.FirstBad.{firstBad}
 use Rattle.refusal.proofs.FirstBadLaws.{bad-end, bad-on, bad-here}
 use Rattle.codec.specs.Codec.{cardLength, readNumber}
-use Rattle.catalogue.specs.declared.Checked.{Checked}
 use Rattle.catalogue.specs.Whole.{numberAt, checked, checkAnswer}
 use Rattle.catalogue.proofs.check.Statement.{statement}
 use Rattle.catalogue.proofs.check.Tie as tie
@@ -44,9 +43,6 @@ number-is s at place n e h =
     h ∙ ap₂ (λ (m l : ℕ). readNumber (take m (drop l s))) k e
 
 -- ---- the needs
-
-returns : tie.Need-returns Inv-loop μ-loop
-returns c = cut (c .before .before .args .catalogue .now) (c .if1 .taken)
 
 loop-holds : tie.Need-loop-holds Inv-loop μ-loop
 loop-holds c =
@@ -99,6 +95,7 @@ returns-3 c =
 pub check-spec : {M : Type 1} → statement M
 check-spec =
     tie.close
-    (tie.spec Inv-loop μ-loop returns loop-holds (λ c. omega (arith, room c)) (λ c. search needs) (λ c. search needs) (λ c. omega (arith, room c))
-    (λ c κs. search needs) returns-2 (λ c. omega (arith, room (c .before .before .before), c .before .before .before .before .loop .inv .steps))
-    (λ c. search needs) loop-again returns-3)
+    (tie.spec Inv-loop μ-loop (λ c. cut (c .before .before .args .catalogue .now) (c .if1 .taken)) loop-holds (λ c. omega (arith, room c))
+    (λ c. search needs) (λ c. search needs) (λ c. omega (arith, room c)) (λ c κs. search needs) returns-2
+    (λ c. omega (arith, room (c .before .before .before), c .before .before .before .before .loop .inv .steps)) (λ c. search needs) loop-again
+    returns-3)

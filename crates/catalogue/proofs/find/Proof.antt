@@ -34,12 +34,6 @@ within c =
     let h = place-within (a .catalogue .now) (a .key .now) (sym (number-is (c .before)) ∙ c .if1 .left) in
     omega arith
 
-sub-result : tie.Need-sub-result
-sub-result c = omega (arith, refused-at c)
-
-part-result-start : tie.Need-part-result-start
-part-result-start c = omega (arith, refused-at c)
-
 returns : tie.Need-returns
 returns c =
     let k = c .before .before in
@@ -48,12 +42,6 @@ returns c =
           (λ z. c .before .if1 .taken (number-is k ∙ z)) (place-is k),
       ptr-is k (a .catalogue .ptr),
     )
-
-add-end : tie.Need-add-end
-add-end c = omega (arith, within c)
-
-part-result-end-2 : tie.Need-part-result-end-2
-part-result-end-2 c = omega (arith, within c)
 
 returns-2 : tie.Need-returns-2
 returns-2 c =
@@ -64,5 +52,5 @@ returns-2 c =
 pub find-spec : {M : Type 1} → statement M
 find-spec =
     tie.close
-    (tie.spec (λ c κs. search needs) sub-result part-result-start (λ c. search needs) returns add-end (λ c. search needs) (λ c. search needs)
-    part-result-end-2 returns-2)
+    (tie.spec (λ c κs. search needs) (λ c. omega (arith, refused-at c)) (λ c. omega (arith, refused-at c)) (λ c. search needs) returns
+    (λ c. omega (arith, within c)) (λ c. search needs) (λ c. search needs) (λ c. omega (arith, within c)) returns-2)

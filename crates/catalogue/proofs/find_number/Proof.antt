@@ -4,8 +4,5 @@ use Rattle.catalogue.proofs.LookupLaws.{number-of}
 use Rattle.catalogue.proofs.find_number.Statement.{statement}
 use Rattle.catalogue.proofs.find_number.Tie as tie
 
-returns : tie.Need-returns
-returns c = number-of (c .before .before .before .args .catalogue .now) (c .before .before .before .args .key .now) (c .scan .ensures)
-
 pub find-number-spec : {M : Type 1} → statement M
-find-number-spec = tie.close (tie.spec (λ c κs. search needs) returns)
+find-number-spec = tie.close (tie.spec (λ c κs. search needs) (λ c. number-of _ _ (c .scan .ensures)))

@@ -37,9 +37,6 @@ none : (s key : List ℕ) (at i : ℕ) → 9 ≤ i → sameFrom s key at i (9 - 
 unfolding sameFrom
 none s key at i h = let e : 9 - i ≡ 0 = omega arith in rw e
 
-loop-holds : tie.Need-loop-holds Inv-loop μ-loop
-loop-holds c = (omega arith, whole (c .args .catalogue .now) (c .args .key .now) (c .args .at))
-
 returns : tie.Need-returns Inv-loop μ-loop
 returns c =
     let l = c .before .before .before .before in
@@ -60,5 +57,5 @@ returns-2 c =
 pub has-site-spec : {M : Type 1} → statement M
 has-site-spec =
     tie.close
-    (tie.spec Inv-loop μ-loop loop-holds (λ c. omega arith) (λ c. omega arith) (λ c. omega arith) returns (λ c. omega arith) (λ c. omega arith)
-    loop-again returns-2)
+    (tie.spec Inv-loop μ-loop (λ c. (omega arith, whole (c .args .catalogue .now) (c .args .key .now) (c .args .at))) (λ c. omega arith)
+    (λ c. omega arith) (λ c. omega arith) returns (λ c. omega arith) (λ c. omega arith) loop-again returns-2)

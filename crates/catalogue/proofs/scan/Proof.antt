@@ -7,8 +7,8 @@ use native.Mathlib.Omega.{arith}
 use borrow.Author.Needs.{needs}
 use borrow.Author.Tests.{not-true, not-false}
 use lib.ListN.{length}
-use Rattle.card.specs.Checks.{siteShape}
-use Rattle.card.proofs.ValidLaws.{site-nine}
+use Rattle.head.specs.Head.{siteShape}
+use Rattle.head.proofs.HeadLaws.{site-nine}
 use Rattle.codec.specs.Codec.{cardLength}
 use Rattle.catalogue.specs.Lookup.{firstFrom, firstPlace}
 use Rattle.catalogue.proofs.LookupLaws.{first-none, first-here, first-later, first-whole, found-0, found-2, found-14, found-15}
@@ -35,9 +35,6 @@ returns : tie.Need-returns Inv-loop μ-loop
 returns c =
     let a = c .before .before .before .before .args in
     found-2 (a .catalogue .now) (a .key .now) (sym (c .before .is-site .ensures) ∙ not-true (c .before .is-site .result) (c .if1 .taken))
-
-returns-2 : tie.Need-returns-2 Inv-loop μ-loop
-returns-2 c = let a = c .before .before .before .before .before .args in found-14 (a .catalogue .now) (a .key .now) (shape (c .before)) (c .if2 .taken)
 
 loop-holds : tie.Need-loop-holds Inv-loop μ-loop
 loop-holds c =
@@ -98,5 +95,6 @@ returns-4 c =
 pub scan-spec : {M : Type 1} → statement M
 scan-spec =
     tie.close
-    (tie.spec Inv-loop μ-loop (λ c κs. search needs) returns returns-2 loop-holds has-site-requires returns-3 (λ c. omega arith) (λ c. omega arith)
-    loop-again returns-4)
+    (tie.spec Inv-loop μ-loop (λ c κs. search needs) returns
+    (λ c. let a = c .before .before .before .before .before .args in found-14 (a .catalogue .now) (a .key .now) (shape (c .before)) (c .if2 .taken))
+    loop-holds has-site-requires returns-3 (λ c. omega arith) (λ c. omega arith) loop-again returns-4)

@@ -29,27 +29,12 @@ whole-is s at a e h k =
     let n : at + cardLength - at ≡ cardLength = omega arith in
     ap (λ (b : Answer). takenWith b false (at + cardLength)) (e ∙ ap (λ (m : ℕ). readCard (take m (drop at s))) n) ∙ sym (taken-whole s at h k)
 
-returns : tie.Need-returns
-returns c =
-    let r = c .before in
-    let a = r .before .before .before .args in
-    c .step-of .ensures ∙ done-is (a .s .now) (a .at) (r .refused .result) (r .refused .ensures) (r .before .if1 .taken)
-
-returns-2 : tie.Need-returns-2
-returns-2 c =
-    let r = c .before in
-    let a = r .before .before .before .before .args in
-    c .step-of2 .ensures ∙ short-is (a .s .now) (a .at) (r .refused2 .result) (r .refused2 .ensures) (r .before .before .if1 .left) (r .before .if2 .taken)
-
-returns-3 : tie.Need-returns-3
-returns-3 c =
-    let r = c .before in
-    let e = r .before .before in
-    let a = e .before .before .before .args in
-    c .step-of3 .ensures ∙ whole-is (a .s .now) (a .at) (r .read .result) (r .read .ensures) (e .before .if1 .left) (e .if2 .left)
-
 pub take-at-spec : {M : Type 1} → statement M
 take-at-spec =
     tie.close
-    (tie.spec (λ c κs. search needs) (λ c κs. search needs) returns (λ c. search needs) (λ c κs. search needs) (λ c κs. search needs) returns-2
-    (λ c. search needs) (λ c. search needs) (λ c. search needs) (λ c. search needs) (λ c κs. search needs) (λ c κs. search needs) returns-3)
+    (tie.spec (λ c κs. search needs) (λ c κs. search needs)
+    (λ c. c .step-of .ensures ∙ done-is _ _ _ (c .before .refused .ensures) (c .before .before .if1 .taken))
+    (λ c. search needs) (λ c κs. search needs) (λ c κs. search needs)
+    (λ c. let r = c .before in c .step-of2 .ensures ∙ short-is _ _ _ (r .refused2 .ensures) (r .before .before .if1 .left) (r .before .if2 .taken))
+    (λ c. search needs) (λ c. search needs) (λ c. search needs) (λ c. search needs) (λ c κs. search needs) (λ c κs. search needs)
+    (λ c. let e = c .before .before .before in c .step-of3 .ensures ∙ whole-is _ _ _ (c .before .read .ensures) (e .before .if1 .left) (e .if2 .left)))

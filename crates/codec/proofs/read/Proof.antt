@@ -8,9 +8,6 @@ use Rattle.codec.proofs.AnswerLaws.{read-short, read-number, read-refus
 use Rattle.codec.proofs.read.Statement.{statement}
 use Rattle.codec.proofs.read.Tie as tie
 
-returns : tie.Need-returns
-returns c = c .refused .ensures ∙ read-short (c .before .before .before .args .s .now) (c .before .if1 .taken)
-
 number-is : (c : tie.After-check-with) → c .check-with .result ≡ readNumber (c .before .before .before .before .before .args .s .now)
 number-is c =
     let s = c .before .before .before .before .before .args .s .now in
@@ -29,5 +26,5 @@ returns-3 c =
 pub read-spec : {M : Type 1} → statement M
 read-spec =
     tie.close
-    (tie.spec (λ c κs. search needs) returns (λ c κs. search needs) (λ c. search needs) (λ c κs. search needs) (λ c κs. search needs) returns-2
-    returns-3)
+    (tie.spec (λ c κs. search needs) (λ c. c .refused .ensures ∙ read-short (c .before .before .before .args .s .now) (c .before .if1 .taken))
+    (λ c κs. search needs) (λ c. search needs) (λ c κs. search needs) (λ c κs. search needs) returns-2 returns-3)

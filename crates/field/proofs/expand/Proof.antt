@@ -9,9 +9,6 @@ use Rattle.field.proofs.AnswerLaws.{expand-short, expand-number, expand
 use Rattle.field.proofs.expand.Statement.{statement}
 use Rattle.field.proofs.expand.Tie as tie
 
-returns : tie.Need-returns
-returns c = c .refused .ensures ∙ expand-short (c .before .before .before .args .s .now) (c .before .if1 .taken)
-
 number-is : (c : tie.After-opened-refusal) → c .opened-refusal .result ≡ fieldNumber (c .before .before .before .before .before .args .s .now)
 number-is c =
     let s = c .before .before .before .before .before .args .s .now in
@@ -44,5 +41,5 @@ returns-3 c =
 pub expand-spec : {M : Type 1} → statement M
 expand-spec =
     tie.close
-    (tie.spec (λ c κs. search needs) returns (λ c κs. search needs) (λ c κs. search needs) (λ c κs. search needs) (λ c κs. search needs) returns-2
-    expanded-requires returns-3)
+    (tie.spec (λ c κs. search needs) (λ c. c .refused .ensures ∙ expand-short (c .before .before .before .args .s .now) (c .before .if1 .taken))
+    (λ c κs. search needs) (λ c κs. search needs) (λ c κs. search needs) (λ c κs. search needs) returns-2 expanded-requires returns-3)

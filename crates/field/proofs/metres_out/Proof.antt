@@ -59,12 +59,6 @@ asks z h = omega (arith, ap natAbs (same z h))
 returns : tie.Need-returns
 returns c = refused (c .before .before .before .args .c) (c .before .before .from-mark .result .number) _ (number-is (c .before .before)) (c .if1 .taken) zero-is
 
-in-metres-requires : tie.Need-in-metres-requires
-in-metres-requires c κs = asks (c .before .before .before .from-mark .result .grains .x) (away (c .before) .x)
-
-in-metres-requires-2 : tie.Need-in-metres-requires-2
-in-metres-requires-2 c κs = asks (c .before .before .before .before .before .from-mark .result .grains .y) (away (c .before .before .before) .y)
-
 in-metres-requires-3 : tie.Need-in-metres-requires-3
 in-metres-requires-3 c κs = asks (c .before .before .before .before .before .before .before .from-mark .result .grains .z) (away (c .before .before .before .before .before) .z)
 
@@ -78,4 +72,8 @@ returns-2 c =
     (c .in-metres3 .ensures ∙ ap inMetres (same _ (away f .z) ∙ ap (λ (v : Vec3). v .z) (away-is f)))
 
 pub metres-out-spec : {M : Type 1} → statement M
-metres-out-spec = tie.close (tie.spec (λ c κs. search needs) returns in-metres-requires in-metres-requires-2 in-metres-requires-3 returns-2)
+metres-out-spec =
+    tie.close
+    (tie.spec (λ c κs. search needs) returns (λ c κs. asks (c .before .before .before .from-mark .result .grains .x) (away (c .before) .x))
+    (λ c κs. asks (c .before .before .before .before .before .from-mark .result .grains .y) (away (c .before .before .before) .y))
+    in-metres-requires-3 returns-2)

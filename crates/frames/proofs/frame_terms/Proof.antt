@@ -63,9 +63,6 @@ wide c = accepted-within (c .before .before .before .before .args .m) (mark-in c
 small : (c : tie.After-row-of) → RowSmall (c .row-of .result)
 small c = rw (c .row-of .ensures) (row-small (c .before .before .before .before .args .frame))
 
-returns : tie.Need-returns
-returns c = terms-unknown (c .before .args .frame) (c .before .args .m) (frame-unknown (c .before .args .frame) (c .if1 .taken))
-
 returns-2 : tie.Need-returns-2
 returns-2 c =
     let s = c .before .before .before in
@@ -133,5 +130,6 @@ returns-3 c =
 pub frame-terms-spec : {M : Type 1} → statement M
 frame-terms-spec =
     tie.close
-    (tie.spec returns (λ c κs. search needs) returns-2 (λ c κs. search needs) offset-requires offset-requires-2 offset-requires-3 drift-requires
-    drift-requires-2 drift-requires-3 returns-3)
+    (tie.spec (λ c. terms-unknown (c .before .args .frame) (c .before .args .m) (frame-unknown (c .before .args .frame) (c .if1 .taken)))
+    (λ c κs. search needs) returns-2 (λ c κs. search needs) offset-requires offset-requires-2 offset-requires-3 drift-requires drift-requires-2
+    drift-requires-3 returns-3)

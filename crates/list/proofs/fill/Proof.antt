@@ -7,8 +7,8 @@ use borrow.Author.Needs.{needs}
 use lib.ListN.{length, take, drop}
 use borrow.Rule.Slice.PartMut.{same-len-mid}
 use Rattle.codec.specs.Codec.{cardLength}
-use Rattle.catalogue.specs.Line.{lineMost}
-use Rattle.catalogue.proofs.LineLaws.{line-most}
+use Rattle.listing.specs.Line.{lineMost}
+use Rattle.listing.proofs.LineLaws.{line-most}
 use Rattle.list.specs.Batch.{inputMost, outputMost}
 use Rattle.list.proofs.fill.Statement.{statement}
 use Rattle.list.proofs.fill.Tie as tie
@@ -60,24 +60,6 @@ loop-holds c =
     let s = c .before .before in
     record { size = s .pre .0; room = s .pre .1; kept = refl; within = omega arith; steps = λ h. refl; spent = omega arith }
 
-sub-line : tie.Need-sub-line Inv-loop μ-loop
-sub-line c = omega (arith, c .part-end .ensures)
-
-part-line-start : tie.Need-part-line-start Inv-loop μ-loop
-part-line-start c = omega (arith, c .part-end .ensures)
-
-part-line-end : tie.Need-part-line-end Inv-loop μ-loop
-part-line-end c = omega (arith, c .part-end .ensures)
-
-sub-line-2 : tie.Need-sub-line-2 Inv-loop μ-loop
-sub-line-2 c = omega (arith, ready (c .before .before) .free)
-
-part-line-start-2 : tie.Need-part-line-start-2 Inv-loop μ-loop
-part-line-start-2 c = omega (arith, ready (c .before .before) .free)
-
-part-line-end-2 : tie.Need-part-line-end-2 Inv-loop μ-loop
-part-line-end-2 c = omega (arith, ready (c .before .before) .free)
-
 line-short : (c : tie.After-slice-known2 Inv-loop μ-loop) → c .before .before .line .result ≤ lineMost
 line-short c =
     let l = c .before .before .before .before .before .before .before .loop in
@@ -97,14 +79,10 @@ loop-again c =
     (same-len-mid (l .filled) (length (l .text) - l .filled) (l .text) (c .before .before .line .last .1 .0) (c .before .before .line .kept .1 .0)
     ∙ l .inv .kept)
 
-same-length : tie.Need-same-length Inv-loop μ-loop
-same-length c = c .before .loop .inv .kept
-
-returns : tie.Need-returns Inv-loop μ-loop
-returns c = let i = c .before .loop .inv in omega (arith, i .spent, i .within, i .size)
-
 pub fill-spec : {M : Type 1} → statement M
 fill-spec =
     tie.close
-    (tie.spec Inv-loop μ-loop loop-holds (λ c κs. omega arith) sub-line part-line-start part-line-end sub-line-2 part-line-start-2 part-line-end-2
-    (λ c κs. search needs) add-filled loop-less loop-again same-length returns)
+    (tie.spec Inv-loop μ-loop loop-holds (λ c κs. omega arith) (λ c. omega (arith, c .part-end .ensures)) (λ c. omega (arith, c .part-end .ensures))
+    (λ c. omega (arith, c .part-end .ensures)) (λ c. omega (arith, ready (c .before .before) .free))
+    (λ c. omega (arith, ready (c .before .before) .free)) (λ c. omega (arith, ready (c .before .before) .free)) (λ c κs. search needs) add-filled
+    loop-less loop-again (λ c. c .before .loop .inv .kept) (λ c. let i = c .before .loop .inv in omega (arith, i .spent, i .within, i .size)))

@@ -7,12 +7,8 @@ use Rattle.codec.proofs.BytesLaws.{same-call}
 use Rattle.netvjesha.proofs.nv_move.Statement.{statement}
 use Rattle.netvjesha.proofs.nv_move.Tie as tie
 
-returns : tie.Need-returns
-returns c =
-    let r = c .before .before in
-    let s = r .before .before .before .before in
-    let a = s .args in
-    same-call (a .s .now) (a .out .now) _ (move (a .d)) (r .move-by .result) (r .move-by .last .1 .1 .0) (ap move (toZ-ofZ (s .fits .d))) (r .move-by .ensures)
-
 pub nv-move-spec : {M : Type 1} → statement M
-nv-move-spec = tie.close (tie.spec (λ c κs. search needs) (λ c. search needs) returns)
+nv-move-spec =
+    tie.close
+    (tie.spec (λ c κs. search needs) (λ c. search needs)
+    (λ c. let r = c .before .before in same-call _ _ _ _ _ _ (ap move (toZ-ofZ (r .before .before .before .before .fits .d))) (r .move-by .ensures)))

@@ -12,12 +12,11 @@ use Rattle.netvjesha.proofs.packed.Tie as tie
 sum : (n k : ℕ) → n < 256 → k < 72057594037927936 → n + 256 * k < 2 ^ 64
 sum n k h i = omega arith
 
-add-result : tie.Need-add-result
-add-result c = record { fits = sum _ _ (c .pre) (mod-lt (c .args .place) (lit< tt)) }
-
 returns : tie.Need-returns
 unfolding packed
 returns c = refl
 
 pub packed-spec : {M : Type 1} → statement M
-packed-spec = tie.close (tie.spec (λ c. search needs) add-result returns)
+packed-spec =
+    tie.close
+    (tie.spec (λ c. search needs) (λ c. record { fits = sum _ _ (c .pre) (mod-lt (c .args .place) (lit< tt)) }) returns)

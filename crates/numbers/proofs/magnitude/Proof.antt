@@ -12,18 +12,6 @@ use Rattle.numbers.proofs.magnitude.Tie as tie
 known : (c : tie.Then1) → Negative (c .before .args .z)
 known c = negative (c .before .args .z) (c .before .fits .z) (c .if1 .taken)
 
-add-result : tie.Need-add-result
-add-result c = fit (above (c .before .args .z) (c .before .fits .z) (known c)) (known c .small)
-
-sub-result : tie.Need-sub-result
-sub-result c = fit (turned (c .before .args .z) (c .before .fits .z) (known c)) (known c .small)
-
-cast-result : tie.Need-cast-result
-cast-result c = toU (size (c .before .args .z) (c .before .fits .z) (known c)) (omega (arith, known c .small))
-
-add-result-2 : tie.Need-add-result-2
-add-result-2 c = omega (arith, known c .small, told-U (size (c .before .args .z) (c .before .fits .z) (known c)))
-
 returns : tie.Need-returns
 returns c =
     ap (λ (k : ℕ). k + 1) (told-U (size (c .before .args .z) (c .before .fits .z) (known c)))
@@ -33,11 +21,12 @@ returns c =
 here : (c : tie.Else1) → Positive (c .before .args .z)
 here c = positive (c .before .args .z) (c .before .fits .z) (c .if1 .left)
 
-cast-result-2 : tie.Need-cast-result-2
-cast-result-2 c = toU (itself (c .before .args .z) (c .before .fits .z) (here c)) (omega (arith, here c .small))
-
-returns-2 : tie.Need-returns-2
-returns-2 c = told-U (itself (c .before .args .z) (c .before .fits .z) (here c)) ∙ sym (ap natAbs (here c .is))
-
 pub magnitude-spec : {M : Type 1} → statement M
-magnitude-spec = tie.close (tie.spec add-result sub-result cast-result add-result-2 returns cast-result-2 returns-2)
+magnitude-spec =
+    tie.close
+    (tie.spec (λ c. fit (above (c .before .args .z) (c .before .fits .z) (known c)) (known c .small))
+    (λ c. fit (turned (c .before .args .z) (c .before .fits .z) (known c)) (known c .small))
+    (λ c. toU (size (c .before .args .z) (c .before .fits .z) (known c)) (omega (arith, known c .small)))
+    (λ c. omega (arith, known c .small, told-U (size (c .before .args .z) (c .before .fits .z) (known c)))) returns
+    (λ c. toU (itself (c .before .args .z) (c .before .fits .z) (here c)) (omega (arith, here c .small)))
+    (λ c. told-U (itself (c .before .args .z) (c .before .fits .z) (here c)) ∙ sym (ap natAbs (here c .is))))

@@ -63,15 +63,6 @@ above-zero c = pos-of-ne-zero (c .if2 .left)
 at-most : (c : tie.Else2) → c .before .before .nearest .result ≤ 2 ^ 63
 at-most c = omega (arith, room (c .before .before), ap natAbs (known (c .before) .is), known (c .before) .small)
 
-cast-result : tie.Need-cast-result
-cast-result c = sfits-abs (le-refl (c .before .before .nearest .result - 1)) (omega (arith, above-zero c, at-most c))
-
-sub-result-2 : tie.Need-sub-result-2
-sub-result-2 c = fit (back (c .before .before .nearest .result) (above-zero c) (at-most c)) (omega (arith, above-zero c, at-most c))
-
-sub-result-3 : tie.Need-sub-result-3
-sub-result-3 c = fits-down (c .before .before .nearest .result) (above-zero c) (at-most c)
-
 returns-2 : tie.Need-returns-2
 returns-2 c =
     answered (c .before .before .nearest .result) (above-zero c) (at-most c)
@@ -85,9 +76,6 @@ here c = positive (c .before .before .before .args .a) (c .before .before .befor
 below : (c : tie.Else1) → c .before .nearest .result < 2 ^ 63
 below c = omega (arith, room (c .before), ap natAbs (here c .is), here c .small)
 
-cast-result-2 : tie.Need-cast-result-2
-cast-result-2 c = sfits-abs (le-refl (c .before .nearest .result)) (below c)
-
 kept : (a : ℤ) (b r : ℕ) → Positive a → r ≡ nearest (natAbs a) b → pos r ≡ near a b
 unfolding near
 kept a b r n h = ap pos (h ∙ ap (λ (z : ℤ). nearest (natAbs z) b) (n .is)) ∙ sym (ap (λ (z : ℤ). near z b) (n .is))
@@ -100,5 +88,8 @@ returns-3 c =
 pub near-spec : {M : Type 1} → statement M
 near-spec =
     tie.close
-    (tie.spec (λ c κs. search needs) (λ c κs. search needs) returns (λ c. search needs) cast-result sub-result-2 sub-result-3 returns-2
-    cast-result-2 returns-3)
+    (tie.spec (λ c κs. search needs) (λ c κs. search needs) returns (λ c. search needs)
+    (λ c. sfits-abs (le-refl (c .before .before .nearest .result - 1)) (omega (arith, above-zero c, at-most c)))
+    (λ c. fit (back (c .before .before .nearest .result) (above-zero c) (at-most c)) (omega (arith, above-zero c, at-most c)))
+    (λ c. fits-down (c .before .before .nearest .result) (above-zero c) (at-most c)) returns-2
+    (λ c. sfits-abs (le-refl (c .before .nearest .result)) (below c)) returns-3)

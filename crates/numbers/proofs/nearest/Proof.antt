@@ -9,14 +9,8 @@ use Rattle.numbers.proofs.NearLaws.{nearest-by-zero, nearest-up, neares
 use Rattle.numbers.proofs.nearest.Statement.{statement}
 use Rattle.numbers.proofs.nearest.Tie as tie
 
-returns : tie.Need-returns
-returns c = sym (ap (λ (b : ℕ). nearest (c .before .args .n) b) (c .if1 .taken) ∙ nearest-by-zero (c .before .args .n))
-
 positive : (c : tie.Else1) → 0 < c .before .args .b
 positive c = pos-of-ne-zero (c .if1 .left)
-
-sub-if2 : tie.Need-sub-if2
-sub-if2 c = le-of-lt (mod-lt (c .before .args .n) (positive c))
 
 -- a remainder that is not 0 leaves room for one more
 room : (n b : ℕ) → 0 < b → b - n % b ≤ n % b → n / b + 1 ≤ n
@@ -38,4 +32,7 @@ returns-3 c =
     sym (nearest-down n b (omega (arith, mod-lt n (positive (c .before)))))
 
 pub nearest-spec : {M : Type 1} → statement M
-nearest-spec = tie.close (tie.spec returns (λ c. search needs) (λ c. search needs) sub-if2 add-result returns-2 returns-3)
+nearest-spec =
+    tie.close
+    (tie.spec (λ c. sym (ap (λ (b : ℕ). nearest (c .before .args .n) b) (c .if1 .taken) ∙ nearest-by-zero (c .before .args .n))) (λ c. search needs)
+    (λ c. search needs) (λ c. le-of-lt (mod-lt (c .before .args .n) (positive c))) add-result returns-2 returns-3)

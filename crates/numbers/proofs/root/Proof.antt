@@ -14,21 +14,12 @@ Inv-loop n x₀ x = (x < 2 ^ 32) × (n < (x + 1) * (x + 1))
 abbrev μ-loop : tie.MeasureT-loop
 μ-loop n x₀ x = x
 
-loop-holds : tie.Need-loop-holds Inv-loop μ-loop
-loop-holds c = c .start .ensures
-
 -- a number below 2^32 has a square below 2^64
 mul-loop : tie.Need-mul-loop Inv-loop μ-loop
 mul-loop c = let l = le-of-suc-le-suc (c .loop .inv .0) in record { fits = omega (arith, mul-le-mul l l) }
 
-div-x : tie.Need-div-x Inv-loop μ-loop
-div-x c = square-positive (c .before .before .before .args .n) (c .before .loop .x) (c .loop-test .taken)
-
 add-x : tie.Need-add-x Inv-loop μ-loop
 add-x c = record { fits = omega (arith, c .before .loop .inv .0, step-small (c .before .before .before .args .n) (c .before .loop .x) (c .loop-test .taken)) }
-
-loop-less : tie.Need-loop-less Inv-loop μ-loop
-loop-less c = step-down (c .before .before .before .args .n) (c .before .loop .x) (c .loop-test .taken)
 
 loop-again : tie.Need-loop-again Inv-loop μ-loop
 loop-again c =
@@ -42,4 +33,7 @@ returns c = root-same (c .before .before .before .args .n) (c .before .loop .x) 
 
 pub root-spec : {M : Type 1} → statement M
 root-spec =
-    tie.close (tie.spec Inv-loop μ-loop (λ c κs. search needs) loop-holds mul-loop div-x add-x loop-less loop-again returns)
+    tie.close
+    (tie.spec Inv-loop μ-loop (λ c κs. search needs) (λ c. c .start .ensures) mul-loop
+    (λ c. square-positive (c .before .before .before .args .n) (c .before .loop .x) (c .loop-test .taken)) add-x
+    (λ c. step-down (c .before .before .before .args .n) (c .before .loop .x) (c .loop-test .taken)) loop-again returns)

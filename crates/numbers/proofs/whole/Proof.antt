@@ -15,9 +15,6 @@ of-nan : NotFinite ≡ shown (wholeOf nan)
 unfolding shown wholeOf
 of-nan = refl
 
-returns : tie.Need-returns
-returns c = of-nan ∙ ap (λ (x : Float). shown (wholeOf x)) (sym (differs-from-itself (c .before .args .x) (subst T (sym (c .if1 .taken)) tt)))
-
 -- what equals itself is no NaN
 no-nan : (x : Float) → ne x x ≡ false → T (not (isNan x))
 unfolding isNan
@@ -25,13 +22,14 @@ no-nan nan e = subst T (sym nan-differs ∙ e) tt
 no-nan (inf s) e = tt
 no-nan (fin s m d) e = tt
 
-float-to-bits-whole-of-bits : tie.Need-float-to-bits-whole-of-bits
-float-to-bits-whole-of-bits c = no-nan (c .before .args .x) (c .if1 .left)
-
 returns-2 : tie.Need-returns-2
 returns-2 c =
     c .whole-of-bits .ensures
     ∙ ap (λ (x : Float). shown (wholeOf x)) (ofBits-toBits binary64 (c .before .before .args .x) (subst T (sym (c .before .before .good .0 .1)) tt))
 
 pub whole-spec : {M : Type 1} → statement M
-whole-spec = tie.close (tie.spec returns float-to-bits-whole-of-bits (λ c κs. search needs) returns-2)
+whole-spec =
+    tie.close
+    (tie.spec
+    (λ c. of-nan ∙ ap (λ (x : Float). shown (wholeOf x)) (sym (differs-from-itself (c .before .args .x) (subst T (sym (c .if1 .taken)) tt))))
+    (λ c. no-nan (c .before .args .x) (c .if1 .left)) (λ c κs. search needs) returns-2)

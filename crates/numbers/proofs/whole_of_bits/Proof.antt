@@ -27,9 +27,6 @@ none-at-top b e =
     sym (ap (λ (x : ℕ). shown (wholeOf (ofFields binary64 (leb (2 ^ 63) b) x (b % 2 ^ 52)))) e
     ∙ ap shown (at-top (leb (2 ^ 63) b) (b % 2 ^ 52)))
 
-returns : tie.Need-returns
-returns c = none-at-top (c .before .args .b) (c .if1 .taken)
-
 -- the field has 11 bits, so what is not 2047 is less
 below-top : (b : ℕ) → (b % 9223372036854775808 / 4503599627370496 ≡ 2047 → ⊥) → b % 9223372036854775808 / 4503599627370496 < 2047
 below-top b ne = omega (arith, mod-lt b {m = 9223372036854775808} (lit< tt))
@@ -38,15 +35,9 @@ far-there : (b : ℕ) → 1053 < b % 9223372036854775808 / 4503599627370496 → 
 unfolding ofBits
 far-there b l h = sym (far-above (leb (2 ^ 63) b) (b % 9223372036854775808 / 4503599627370496) (b % 2 ^ 52) l h)
 
-returns-2 : tie.Need-returns-2
-returns-2 c = far-there (c .before .before .args .b) (c .if2 .taken) (below-top (c .before .before .args .b) (c .before .if1 .left))
-
 zero-there : (b : ℕ) → b % 9223372036854775808 / 4503599627370496 < 1022 → Number (pos 0) ≡ shown (wholeOf (ofBits binary64 b))
 unfolding ofBits
 zero-there b h = sym (zero-below (leb (2 ^ 63) b) (b % 9223372036854775808 / 4503599627370496) (b % 2 ^ 52) h (mod-lt b (lit< tt)))
-
-returns-3 : tie.Need-returns-3
-returns-3 c = zero-there (c .before .before .before .args .b) (c .if3 .taken)
 
 -- `1 << k` is 2^k, for a shift below 64
 one-shl : (k : ℕ) → k < 64 → (1 * 2 ^ k) % 2 ^ 64 ≡ 2 ^ k
@@ -72,9 +63,6 @@ returns-4 c = sym (ap shown (mid (c .before)) ∙ shown-far (leb (2 ^ 63) (c .be
 value : (r : ℕ) → r ≤ 1073741824 → Va (toZ w64 r) (pos r) 1073741824
 value r h = ofU h (lit< tt)
 
-sub-t11 : tie.Need-sub-t11
-sub-t11 c = fit (vneg (value (c .before .before .nearest .result) (c .before .if4 .left))) (lit< tt)
-
 returns-5 : tie.Need-returns-5
 returns-5 c =
     let r = c .before .before .nearest .result in
@@ -96,5 +84,8 @@ returns-6 c =
 pub whole-of-bits-spec : {M : Type 1} → statement M
 whole-of-bits-spec =
     tie.close
-    (tie.spec returns returns-2 returns-3 (λ c. search needs) (λ c. search needs) (λ c. search needs) (λ c κs. search needs) returns-4
-    (λ c. search needs) (λ c. search needs) sub-t11 returns-5 returns-6)
+    (tie.spec (λ c. none-at-top (c .before .args .b) (c .if1 .taken))
+    (λ c. far-there (c .before .before .args .b) (c .if2 .taken) (below-top (c .before .before .args .b) (c .before .if1 .left)))
+    (λ c. zero-there (c .before .before .before .args .b) (c .if3 .taken)) (λ c. search needs) (λ c. search needs) (λ c. search needs)
+    (λ c κs. search needs) returns-4 (λ c. search needs) (λ c. search needs)
+    (λ c. fit (vneg (value (c .before .before .nearest .result) (c .before .if4 .left))) (lit< tt)) returns-5 returns-6)

@@ -32,14 +32,8 @@ told : (c : tie.After-unsigned-at) → ofBits binary64 (c .unsigned-at .result) 
 unfolding doubleAt
 told c = ap (ofBits binary64) (c .unsigned-at .ensures)
 
-returns : tie.Need-returns
-returns c = at-nan (c .before .unsigned-at .result) (c .if1 .taken) ∙ told (c .before)
-
-float-from-bits-result : tie.Need-float-from-bits-result
-float-from-bits-result c = off-nan (c .before .unsigned-at .result) (c .if1 .left)
-
-returns-2 : tie.Need-returns-2
-returns-2 c = told (c .before)
-
 pub double-at-spec : {M : Type 1} → statement M
-double-at-spec = tie.close (tie.spec (λ c κs. search needs) returns float-from-bits-result returns-2)
+double-at-spec =
+    tie.close
+    (tie.spec (λ c κs. search needs) (λ c. at-nan (c .before .unsigned-at .result) (c .if1 .taken) ∙ told (c .before))
+    (λ c. off-nan (c .before .unsigned-at .result) (c .if1 .left)) (λ c. told (c .before)))

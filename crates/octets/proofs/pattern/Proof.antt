@@ -13,18 +13,6 @@ use Rattle.octets.proofs.pattern.Tie as tie
 known : (c : tie.Then1) → Negative (c .before .args .z)
 known c = negative (c .before .args .z) (c .before .fits .z) (c .if1 .taken)
 
-add-result : tie.Need-add-result
-add-result c = fit (above (c .before .args .z) (c .before .fits .z) (known c)) (known c .small)
-
-sub-result : tie.Need-sub-result
-sub-result c = fit (turned (c .before .args .z) (c .before .fits .z) (known c)) (known c .small)
-
-cast-result : tie.Need-cast-result
-cast-result c = toU (size (c .before .args .z) (c .before .fits .z) (known c)) (omega (arith, known c .small))
-
-sub-result-2 : tie.Need-sub-result-2
-sub-result-2 c = omega (arith, known c .small, told-U (size (c .before .args .z) (c .before .fits .z) (known c)))
-
 below : (k : ℕ) → k < 2 ^ 63 → 18446744073709551615 - k ≡ residue 8 (negsuc k)
 unfolding residue
 below k h = rw (mod-eq-of-lt {n = k} {m = 256 ^ 8} (omega arith)) (omega arith)
@@ -38,9 +26,6 @@ returns c =
 here : (c : tie.Else1) → Positive (c .before .args .z)
 here c = positive (c .before .args .z) (c .before .fits .z) (c .if1 .left)
 
-cast-result-2 : tie.Need-cast-result-2
-cast-result-2 c = toU (itself (c .before .args .z) (c .before .fits .z) (here c)) (omega (arith, here c .small))
-
 whole : (k : ℕ) → k < 2 ^ 63 → k ≡ residue 8 (pos k)
 unfolding residue
 whole k h = sym (mod-eq-of-lt {n = k} {m = 256 ^ 8} (omega arith))
@@ -51,4 +36,8 @@ returns-2 c = told-U (itself (c .before .args .z) (c .before .fits .z) (here c))
 pub pattern-spec : {M : Type 1} → statement M
 pattern-spec =
     tie.close
-    (tie.spec add-result sub-result cast-result sub-result-2 returns cast-result-2 returns-2)
+    (tie.spec (λ c. fit (above (c .before .args .z) (c .before .fits .z) (known c)) (known c .small))
+    (λ c. fit (turned (c .before .args .z) (c .before .fits .z) (known c)) (known c .small))
+    (λ c. toU (size (c .before .args .z) (c .before .fits .z) (known c)) (omega (arith, known c .small)))
+    (λ c. omega (arith, known c .small, told-U (size (c .before .args .z) (c .before .fits .z) (known c)))) returns
+    (λ c. toU (itself (c .before .args .z) (c .before .fits .z) (here c)) (omega (arith, here c .small))) returns-2)

@@ -36,12 +36,6 @@ Inv-loop out₀ at n u rest₀ left₀ out rest left =
 abbrev μ-loop : tie.MeasureT-loop
 μ-loop out₀ at n u rest₀ left₀ out rest left = left
 
-loop-holds : tie.Need-loop-holds Inv-loop μ-loop
-loop-holds c = (omega arith, (refl, refl))
-
-slice-write-out : tie.Need-slice-write-out Inv-loop μ-loop
-slice-write-out c = omega (arith, c .before .before .pre, c .before .loop .inv .0, c .before .loop .inv .1 .0, c .loop-test .taken)
-
 loop-again : tie.Need-loop-again Inv-loop μ-loop
 loop-again c =
     let l = c .before in
@@ -55,9 +49,6 @@ loop-again c =
       ),
     )
 
-same-length : tie.Need-same-length Inv-loop μ-loop
-same-length c = c .before .loop .inv .1 .0
-
 returns : tie.Need-returns Inv-loop μ-loop
 returns c =
     let l = c .before in
@@ -67,5 +58,6 @@ returns c =
 pub put-run-spec : {M : Type 1} → statement M
 put-run-spec =
     tie.close
-    (tie.spec Inv-loop μ-loop loop-holds (λ c. search needs) (λ c. search needs) (λ c. search needs) slice-write-out (λ c. search needs) loop-again
-    same-length returns)
+    (tie.spec Inv-loop μ-loop (λ c. (omega arith, (refl, refl))) (λ c. search needs) (λ c. search needs) (λ c. search needs)
+    (λ c. omega (arith, c .before .before .pre, c .before .loop .inv .0, c .before .loop .inv .1 .0, c .loop-test .taken)) (λ c. search needs)
+    loop-again (λ c. c .before .loop .inv .1 .0) returns)

@@ -35,21 +35,12 @@ Inv-loop s at skip n value₀ i₀ value i = (i ≤ n) × (value ≡ unsignedAt 
 abbrev μ-loop : tie.MeasureT-loop
 μ-loop s at skip n value₀ i₀ value i = n - i
 
-loop-holds : tie.Need-loop-holds Inv-loop μ-loop
-loop-holds c = (omega arith, none (c .before .args .s .now) (c .before .args .at + c .before .args .skip))
-
 room-at : (c : tie.In-loop Inv-loop μ-loop)
     → Room (c .before .before .before .args .s .now) (c .before .before .before .args .at + c .before .before .before .args .skip) (c .before .loop .i)
 room-at c =
     let known = c .before .before in
     let a = known .before .args in
     room (a .s .now) (a .at + a .skip) (c .before .loop .i) (λ i. omega (arith, known .shared-slice-known .given i)) (omega (arith, known .before .pre .1))
-
-mul-value : tie.Need-mul-value Inv-loop μ-loop
-mul-value c = omega (arith, c .before .loop .inv .1, room-at c)
-
-add-byte-at : tie.Need-add-byte-at Inv-loop μ-loop
-add-byte-at c = omega (arith, c .before .before .before .pre .0, c .before .before .before .pre .1)
 
 -- the byte, counted from the run's first
 byte : (s : List ℕ) (at skip i b : ℕ) → b ≡ getD s (at + (skip + i)) 0 → b ≡ getD s (at + skip + i) 0
@@ -60,9 +51,6 @@ byte-is : (c : tie.After-byte-at Inv-loop μ-loop)
 byte-is c =
     let a = c .before .before .before .before .args in
     byte (a .s .now) (a .at) (a .skip) (c .before .before .loop .i) (c .byte-at .result) (c .byte-at .ensures)
-
-add-value : tie.Need-add-value Inv-loop μ-loop
-add-value c = omega (arith, c .before .before .loop .inv .1, byte-is c, room-at (c .before))
 
 loop-again : tie.Need-loop-again Inv-loop μ-loop
 loop-again c =
@@ -79,5 +67,7 @@ returns c =
 pub run-at-spec : {M : Type 1} → statement M
 run-at-spec =
     tie.close
-    (tie.spec Inv-loop μ-loop loop-holds mul-value add-byte-at (λ c κs. search needs) (λ c. search needs) add-value (λ c. search needs)
-    (λ c. search needs) loop-again returns)
+    (tie.spec Inv-loop μ-loop (λ c. (omega arith, none (c .before .args .s .now) (c .before .args .at + c .before .args .skip)))
+    (λ c. omega (arith, c .before .loop .inv .1, room-at c))
+    (λ c. omega (arith, c .before .before .before .pre .0, c .before .before .before .pre .1)) (λ c κs. search needs) (λ c. search needs)
+    (λ c. omega (arith, c .before .before .loop .inv .1, byte-is c, room-at (c .before))) (λ c. search needs) (λ c. search needs) loop-again returns)

@@ -60,9 +60,6 @@ told : (c : tie.After-greatest)
 unfolding signedAt
 told c = ap (signedOf (min (c .before .before .before .args .n) 8)) (c .before .unsigned-at .ensures)
 
-sub-if1 : tie.Need-sub-if1
-sub-if1 c = omega (arith, known c)
-
 returns : tie.Need-returns
 returns c =
     low (min (c .before .before .before .before .args .n) 8) (c .before .before .unsigned-at .result) (c .before .greatest .result)
@@ -70,17 +67,8 @@ returns c =
     (c .if1 .taken)
     ∙ told (c .before)
 
-sub-result : tie.Need-sub-result
-sub-result c = omega (arith, known (c .before))
-
 gap : (c : tie.Else1) → c .before .greatest .result - c .before .before .unsigned-at .result < 2 ^ 63
 gap c = omega (arith, known (c .before))
-
-sub-result-2 : tie.Need-sub-result-2
-sub-result-2 c = fit (back (c .before .greatest .result - c .before .before .unsigned-at .result) (gap c)) (gap c)
-
-sub-result-3 : tie.Need-sub-result-3
-sub-result-3 c = fits-down (c .before .greatest .result - c .before .before .unsigned-at .result) (gap c)
 
 returns-2 : tie.Need-returns-2
 returns-2 c =
@@ -94,5 +82,7 @@ returns-2 c =
 pub signed-at-spec : {M : Type 1} → statement M
 signed-at-spec =
     tie.close
-    (tie.spec (λ c κs. search needs) (λ c κs. search needs) sub-if1 (λ c. search needs) returns sub-result (λ c. search needs) sub-result-2
-    sub-result-3 returns-2)
+    (tie.spec (λ c κs. search needs) (λ c κs. search needs) (λ c. omega (arith, known c)) (λ c. search needs) returns
+    (λ c. omega (arith, known (c .before))) (λ c. search needs)
+    (λ c. fit (back (c .before .greatest .result - c .before .before .unsigned-at .result) (gap c)) (gap c))
+    (λ c. fits-down (c .before .greatest .result - c .before .before .unsigned-at .result) (gap c)) returns-2)

@@ -56,17 +56,8 @@ returns c =
     let a = c .before .before .before .args in
     c .refused .ensures ∙ no-mark (a .m) (a .first) (a .second) (unmarked (a .m) (sym (c .before .before .length-of .ensures) ∙ c .before .if1 .taken))
 
-units-requires : tie.Need-units-requires
-units-requires c κs = accepted-wide (c .before .before .args .m) (mark-in c)
-
 enum-told : tie.Need-enum-told
 enum-told c = search needs
-
-pair-tide-requires : tie.Need-pair-tide-requires
-pair-tide-requires c κs = directed (c .before .before .before .before .before .before)
-
-pair-tide-requires-2 : tie.Need-pair-tide-requires-2
-pair-tide-requires-2 c κs = directed (c .before .before .before .before .before .before)
 
 -- the bodies as they were taken apart
 returns-2 : tie.Need-returns-2
@@ -115,6 +106,7 @@ returns-5 c =
 pub solid-tide-spec : {M : Type 1} → statement M
 solid-tide-spec =
     tie.close
-    (tie.spec (λ c κs. search needs) (λ c κs. search needs) returns units-requires (λ c. search needs) enum-told (λ c κs. search needs)
-    (λ c. search needs) pair-tide-requires (λ c. search needs) (λ c. search needs) pair-tide-requires-2 (λ c. search needs) (λ c κs. search needs)
-    returns-2 returns-3 returns-4 returns-5)
+    (tie.spec (λ c κs. search needs) (λ c κs. search needs) returns (λ c κs. accepted-wide (c .before .before .args .m) (mark-in c))
+    (λ c. search needs) enum-told (λ c κs. search needs) (λ c. search needs) (λ c κs. directed (c .before .before .before .before .before .before))
+    (λ c. search needs) (λ c. search needs) (λ c κs. directed (c .before .before .before .before .before .before)) (λ c. search needs)
+    (λ c κs. search needs) returns-2 returns-3 returns-4 returns-5)

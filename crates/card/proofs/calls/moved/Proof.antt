@@ -11,8 +11,9 @@ use Rattle.algebra.proofs.Machine.{Va, plain, at, v+, fit, rd}
 use Rattle.mark.specs.Mark.{plus, scaled}
 use Rattle.mark.proofs.LengthLaws.{widen}
 use Rattle.mark.proofs.SizeLaws.{within-sized, sized-as, scaled-within}
-use Rattle.card.specs.Checks.{epochFits, positionFits}
-use Rattle.card.specs.State.{stateOf}
+use Rattle.head.specs.State.{stateOf}
+use Rattle.head.specs.Head.{epochFits}
+use Rattle.card.specs.Checks.{positionFits}
 use Rattle.card.proofs.CheckLaws.{Small, valid-small}
 use Rattle.card.proofs.StepLaws.{moved-tide, moved-epoch, moved-far, moved-near, too-long}
 use Rattle.card.proofs.calls.moved.Statement.{statement}

@@ -3,7 +3,7 @@ use mathlib.Core.Path.{_≡_, sym, _∙_}
 use borrow.Author.Needs.{needs}
 use borrow.Author.Tests.{not-true, not-false}
 use mir.Facts.{toZ-ofZ}
-use Rattle.card.specs.State.{stateOf}
+use Rattle.head.specs.State.{stateOf}
 use Rattle.card.proofs.StepLaws.{retided-state, retided-besides, retided-far, retided-near}
 use Rattle.card.proofs.calls.retided.Statement.{statement}
 use Rattle.card.proofs.calls.retided.Tie as tie

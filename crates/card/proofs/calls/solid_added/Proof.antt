@@ -2,19 +2,13 @@
 use mathlib.Core.Path.{_≡_, ap, _∙_}
 use mathlib.Core.Bool.{true}
 use borrow.Author.Needs.{needs}
-use lib.Dec.{lit≤}
 use Rattle.mark.specs.declared.Vec3.{Vec3}
 use Rattle.mark.specs.Mark.{marked}
-use Rattle.mark.proofs.LengthLaws.{widen}
-use Rattle.mark.proofs.SizeLaws.{within-sized}
 use Rattle.card.specs.Steps.{retided}
-use Rattle.card.proofs.CheckLaws.{Small, valid-passed, valid-small}
-use Rattle.card.proofs.StepLaws.{solid-on-is, tide-small}
+use Rattle.card.proofs.CheckLaws.{valid-passed}
+use Rattle.card.proofs.StepLaws.{mark-sized, addable, solid-on-is, tide-small}
 use Rattle.card.proofs.calls.solid_added.Statement.{statement}
 use Rattle.card.proofs.calls.solid_added.Tie as tie
-
-small : (c : tie.Start) → Small (c .args .c)
-small c = valid-small (c .args .c) (c .pre)
 
 on-mark : (c : tie.Start) → marked (c .args .c .mark) ≡ true
 on-mark c = valid-passed (c .args .c) (c .pre) .mark
@@ -22,13 +16,8 @@ on-mark c = valid-passed (c .args .c) (c .pre) .mark
 plus-requires : tie.Need-plus-requires
 plus-requires c κs =
     let t = c .before in
-    let s = t .before in (
-      within-sized (widen (small s .position) (lit≤ tt)),
-      within-sized (widen (tide-small (s .args .c) (s .args .first) (s .args .second) (t .solid-tide .result) (on-mark s) (t .solid-tide .ensures)) (lit≤ tt)),
-    )
-
-retided-requires : tie.Need-retided-requires
-retided-requires c κs = within-sized (small (c .before .before .before) .mark)
+    let s = t .before in
+    addable (s .args .c) (s .pre) (tide-small (s .args .c) (s .args .first) (s .args .second) _ (on-mark s) (t .solid-tide .ensures))
 
 returns : tie.Need-returns
 returns c =
@@ -39,4 +28,5 @@ returns c =
     ∙ solid-on-is (s .args .c) (s .args .first) (s .args .second) (t .solid-tide .result) (on-mark s) (t .solid-tide .ensures)
 
 pub solid-added-spec : {M : Type 1} → statement M
-solid-added-spec = tie.close (tie.spec (λ c κs. search needs) plus-requires retided-requires returns)
+solid-added-spec =
+    tie.close (tie.spec (λ c κs. search needs) plus-requires (λ c κs. let s = c .before .before .before in mark-sized (s .args .c) (s .pre)) returns)

@@ -1,34 +1,15 @@
 -- `card::calls::solid_taken` meets its contract: the stored vector is taken away. Assumes nothing.
-use mathlib.Core.Path.{ap, _∙_}
-use lib.Dec.{lit≤}
-use Rattle.mark.specs.declared.Vec3.{Vec3}
-use Rattle.mark.specs.Mark.{nowhere}
-use Rattle.mark.proofs.LengthLaws.{widen}
-use Rattle.mark.proofs.SizeLaws.{within-sized}
-use Rattle.card.specs.Steps.{retided}
-use Rattle.card.proofs.CheckLaws.{Small, valid-small}
-use Rattle.card.proofs.StepLaws.{solid-off-is}
+use mathlib.Core.Path.{_∙_}
+use Rattle.card.proofs.CheckLaws.{valid-small}
+use Rattle.card.proofs.StepLaws.{mark-sized, addable, solid-off-is}
 use Rattle.card.proofs.calls.solid_taken.Statement.{statement}
 use Rattle.card.proofs.calls.solid_taken.Tie as tie
 
-small : (c : tie.Start) → Small (c .args .c)
-small c = valid-small (c .args .c) (c .pre)
-
 minus-requires : tie.Need-minus-requires
-minus-requires c κs = (
-  within-sized (widen (small c .position) (lit≤ tt)),
-  within-sized (widen (small c .solid) (lit≤ tt)),
-)
-
-retided-requires : tie.Need-retided-requires
-retided-requires c κs = within-sized (small (c .before) .mark)
+minus-requires c κs = addable (c .args .c) (c .pre) (valid-small (c .args .c) (c .pre) .solid)
 
 returns : tie.Need-returns
-returns c =
-    let a = c .before .before .args .c in
-    c .retided .ensures
-    ∙ ap (λ (p : Vec3). retided a 2 0 0 p nowhere) (c .before .minus .ensures)
-    ∙ solid-off-is a
+returns c = c .retided .ensures ∙ solid-off-is (c .before .before .args .c) _ (c .before .minus .ensures)
 
 pub solid-taken-spec : {M : Type 1} → statement M
-solid-taken-spec = tie.close (tie.spec minus-requires retided-requires returns)
+solid-taken-spec = tie.close (tie.spec minus-requires (λ c κs. mark-sized (c .before .args .c) (c .before .pre)) returns)

@@ -51,16 +51,10 @@ m-within s = sized-within 6400000 (s .args .m) (s .pre .0)
 p-within : (s : tie.Start) → Within 10000000000000000 (s .args .p)
 p-within s = sized-within 10000000000000000 (s .args .p) (s .pre .1)
 
-mul-t3 : tie.Need-mul-t3
-mul-t3 c = fit (v* (lit 1461000000) (given (mx-fits c) (m-within (c .before .before) .x))) (lit< tt)
-
 sub-t4 : tie.Need-sub-t4
 sub-t4 c =
     let s = c .before .before .before .before in
     fit (less (s .args .m .x) (s .args .p .x) (mx-fits (c .before .before)) (px-fits c) (m-within s .x) (p-within s .x)) (lit< tt)
-
-mul-t5 : tie.Need-mul-t5
-mul-t5 c = fit (v* (lit 1461000000) (given (my-fits c) (m-within (c .before .before .before .before .before .before) .y))) (lit< tt)
 
 sub-t6 : tie.Need-sub-t6
 sub-t6 c =
@@ -88,4 +82,8 @@ returns c =
     (apart (s .args .m .z) (s .args .p .z) (mz-fits (c .before .before)) (pz-fits (c)) (m-within s .z) (p-within s .z))
 
 pub from-mark-spec : {M : Type 1} → statement M
-from-mark-spec = tie.close (tie.spec mul-t3 sub-t4 mul-t5 sub-t6 mul-t7 sub-t8 returns)
+from-mark-spec =
+    tie.close
+    (tie.spec (λ c. fit (v* (lit 1461000000) (given (mx-fits c) (m-within (c .before .before) .x))) (lit< tt)) sub-t4
+    (λ c. fit (v* (lit 1461000000) (given (my-fits c) (m-within (c .before .before .before .before .before .before) .y))) (lit< tt)) sub-t6 mul-t7
+    sub-t8 returns)

@@ -14,8 +14,9 @@ use Rattle.mark.specs.declared.Vec3.{Vec3}
 use Rattle.mark.specs.Mark.{marked, sized}
 use Rattle.mark.proofs.MarkLaws.{accepted-within}
 use Rattle.mark.proofs.SizeLaws.{within-sized}
+use Rattle.head.specs.Head.{headChecks}
 use Rattle.card.specs.declared.Card.{Card}
-use Rattle.card.specs.Checks.{tideFits, velocityFits, positionFits, headChecks, bodyChecks, storedChecks, checks}
+use Rattle.card.specs.Checks.{tideFits, velocityFits, positionFits, bodyChecks, storedChecks, checks}
 use Rattle.card.proofs.checks.refusal_of.Statement.{statement}
 use Rattle.card.proofs.checks.refusal_of.Tie as tie
 
@@ -98,11 +99,8 @@ returns-3 c =
     let a = p .before .before .before .before .before .before .before .before .args in
     stopped 8 (positionFits (a .c .mark) (a .c .position)) (storedChecks (a .c)) (sym (p .position-fits .ensures) ∙ not-true (p .position-fits .result) (c .if3 .taken)) ∙ on2 (p .before)
 
-returns-4 : tie.Need-returns-4
-returns-4 c = c .stored-refusal .ensures ∙ on3 (c .before)
-
 pub refusal-of-spec : {M : Type 1} → statement M
 refusal-of-spec =
     tie.close
     (tie.spec (λ c κs. search needs) (λ c κs. search needs) returns (λ c κs. search needs) returns-2 position-fits-requires returns-3
-    (λ c κs. search needs) returns-4)
+    (λ c κs. search needs) (λ c. c .stored-refusal .ensures ∙ on3 (c .before)))

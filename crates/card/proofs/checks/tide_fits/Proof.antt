@@ -6,8 +6,8 @@ use borrow.Author.Needs.{needs}
 use borrow.Author.Tests.{le-leb, lt-leb, ne-eqb}
 use Rattle.mark.specs.declared.Vec3.{Vec3}
 use Rattle.mark.specs.Mark.{sized}
+use Rattle.head.specs.State.{stateOf, stateFits}
 use Rattle.card.specs.Checks.{isZero, tideFits}
-use Rattle.card.specs.State.{stateOf, stateFits}
 use Rattle.card.proofs.checks.tide_fits.Statement.{statement}
 use Rattle.card.proofs.checks.tide_fits.Tie as tie
 

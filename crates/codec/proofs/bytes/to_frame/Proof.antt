@@ -1,31 +1,14 @@
 -- `codec::bytes::to_frame` meets its contract: what it starts from, the call, then the bytes. Assumes nothing.
 use borrow.Author.Needs.{needs}
-use Rattle.card.specs.Calls.{frame}
 use Rattle.codec.proofs.BytesLaws.{bytes-unopened, opened-room, bytes-stepped}
 use Rattle.codec.proofs.bytes.to_frame.Statement.{statement}
 use Rattle.codec.proofs.bytes.to_frame.Tie as tie
 
-returns : tie.Need-returns
-returns c =
-    let o = c .before .before in
-    let a = o .before .before .before .args in
-    bytes-unopened (a .s .now) (a .out .now) (frame (a .frame)) (o .opened .result) (o .opened .ensures) (c .if1 .taken)
-
-put-requires : tie.Need-put-requires
-put-requires c κs =
-    let e = c .before .before in
-    let o = e .before .before in
-    let a = o .before .before .before .args in
-    opened-room (a .s .now) (a .out .now) (frame (a .frame)) (o .opened .result) (o .opened .ensures) (e .if1 .left)
-
-returns-2 : tie.Need-returns-2
-returns-2 c =
-    let r = c .before .before in
-    let p = r .before .before in
-    let o = p .before .before .before in
-    let a = o .before .before .before .args in
-    bytes-stepped (a .s .now) (a .out .now) (frame (a .frame)) (o .opened .result) (o .opened .ensures) (p .before .if1 .left) (p .to-frame .result)
-    (p .to-frame .ensures) (r .put .result) (r .put .last .1 .0) (r .put .ensures)
-
 pub to-frame-spec : {M : Type 1} → statement M
-to-frame-spec = tie.close (tie.spec (λ c κs. search needs) returns (λ c κs. search needs) put-requires (λ c. search needs) returns-2)
+to-frame-spec =
+    tie.close
+    (tie.spec (λ c κs. search needs) (λ c. bytes-unopened _ _ _ (c .before .before .opened .ensures) _ (c .if1 .taken)) (λ c κs. search needs)
+    (λ c κs. let o = c .before .before .before .before in let a = o .before .before .before .args in
+    opened-room (a .s .now) (a .out .now) _ (o .opened .ensures) (c .before .before .if1 .left)) (λ c. search needs)
+    (λ c. let p = c .before .before .before .before in let o = p .before .before .before in
+    bytes-stepped _ _ _ (o .opened .ensures) (p .before .if1 .left) _ _ (p .to-frame .ensures) _ _ (c .before .before .put .ensures)))

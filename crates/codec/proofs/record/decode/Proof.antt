@@ -11,10 +11,10 @@ use mir.Val.{toZ, ofZ}
 use Rattle.algebra.proofs.Machine.{answered}
 use Rattle.octets.specs.Octets.{signedAt}
 use Rattle.mark.specs.declared.Vec3.{Vec3}
+use Rattle.layout.specs.Layout.{vectorAt}
+use Rattle.layout.proofs.LayoutLaws.{site-long}
 use Rattle.card.specs.declared.Card.{Card}
-use Rattle.codec.specs.Layout.{vectorAt}
 use Rattle.codec.specs.Codec.{decode}
-use Rattle.codec.proofs.LayoutLaws.{site-long}
 use Rattle.codec.proofs.record.decode.Statement.{statement}
 use Rattle.codec.proofs.record.decode.Tie as tie
 

@@ -7,9 +7,9 @@ use lib.ListN.{length, length-map}
 use lib.IntN.{ℤ}
 use Rattle.algebra.proofs.Machine.{answered}
 use Rattle.octets.specs.Octets.{bytesOf, splice}
+use Rattle.layout.specs.Layout.{spliced, headed}
 use Rattle.card.specs.declared.Card.{Card}
 use Rattle.codec.specs.Codec.{cardLength, encode}
-use Rattle.codec.specs.Layout.{spliced, headed}
 use Rattle.codec.proofs.CodecLaws.{put-card}
 use Rattle.codec.proofs.record.encode.Statement.{statement}
 use Rattle.codec.proofs.record.encode.Tie as tie

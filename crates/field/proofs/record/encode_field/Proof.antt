@@ -8,9 +8,9 @@ use lib.IntN.{ℤ}
 use Rattle.algebra.proofs.Machine.{answered}
 use Rattle.octets.specs.Octets.{bytesOf, splice}
 use Rattle.mark.specs.declared.Vec3.{Vec3}
+use Rattle.layout.specs.Layout.{spliced, headed}
 use Rattle.card.specs.declared.Card.{Card}
 use Rattle.card.specs.Checks.{fromMark}
-use Rattle.codec.specs.Layout.{spliced, headed}
 use Rattle.field.specs.Field.{fieldLength, roundedBy, offsetOf, speedOf, fieldOf}
 use Rattle.field.proofs.PackLaws.{taken, field-packed, put-field}
 use Rattle.field.proofs.record.encode_field.Statement.{statement}

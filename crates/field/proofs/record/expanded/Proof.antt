@@ -63,15 +63,6 @@ position-is f p q r = vec≡ p q r
 
 -- ---- the needs
 
-mul-t4 : tie.Need-mul-t4
-mul-t4 c = let s = c .before .before .before .before in fit (fast (s .args .f .speed .x) (speed s .x)) (lit< tt)
-
-mul-t5 : tie.Need-mul-t5
-mul-t5 c = let s = c .before .before .before .before .before .before in fit (fast (s .args .f .speed .y) (speed s .y)) (lit< tt)
-
-mul-t6 : tie.Need-mul-t6
-mul-t6 c = let s = c .before .before .before .before .before .before .before .before in fit (fast (s .args .f .speed .z) (speed s .z)) (lit< tt)
-
 mul-t8 : tie.Need-mul-t8
 mul-t8 c = let s = c .before .before .before .before .before .before .before .before .before .before in fit (grains (s .args .f .mark .x) (mark s .x)) (lit< tt)
 
@@ -115,4 +106,8 @@ returns c =
 
 pub expanded-spec : {M : Type 1} → statement M
 expanded-spec =
-    tie.close (tie.spec mul-t4 mul-t5 mul-t6 mul-t8 mul-t9 add-t10 mul-t11 mul-t12 add-t13 mul-t14 mul-t15 add-t16 returns)
+    tie.close
+    (tie.spec (λ c. let s = c .before .before .before .before in fit (fast (s .args .f .speed .x) (speed s .x)) (lit< tt))
+    (λ c. let s = c .before .before .before .before .before .before in fit (fast (s .args .f .speed .y) (speed s .y)) (lit< tt))
+    (λ c. let s = c .before .before .before .before .before .before .before .before in fit (fast (s .args .f .speed .z) (speed s .z)) (lit< tt))
+    mul-t8 mul-t9 add-t10 mul-t11 mul-t12 add-t13 mul-t14 mul-t15 add-t16 returns)

@@ -6,11 +6,8 @@ use Rattle.algebra.proofs.BoolLaws.{and-first, true-and}
 use Rattle.field.proofs.record.fourth_fits.Statement.{statement}
 use Rattle.field.proofs.record.fourth_fits.Tie as tie
 
-returns : tie.Need-returns
-returns c = let a = c .before .args in sym (and-first (a .zeros) (leb (a .byte) 1) (not-true (a .zeros) (c .if1 .taken)))
-
-returns-2 : tie.Need-returns-2
-returns-2 c = let a = c .before .args in true-and (a .zeros) (leb (a .byte) 1) (not-false (a .zeros) (c .if1 .left))
-
 pub fourth-fits-spec : {M : Type 1} → statement M
-fourth-fits-spec = tie.close (tie.spec returns returns-2)
+fourth-fits-spec =
+    tie.close
+    (tie.spec (λ c. let a = c .before .args in sym (and-first (a .zeros) (leb (a .byte) 1) (not-true (a .zeros) (c .if1 .taken))))
+    (λ c. let a = c .before .args in true-and (a .zeros) (leb (a .byte) 1) (not-false (a .zeros) (c .if1 .left))))

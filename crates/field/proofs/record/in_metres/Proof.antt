@@ -28,8 +28,7 @@ divided : (x z : ℤ) (d : Float) → x ≡ z → d ≡ ofInt binary64 (pos 1461
 unfolding inMetres
 divided x z d p q = ap₂ (λ (y : ℤ) (e : Float). div binary64 (ofInt binary64 y) e) p q
 
-returns : tie.Need-returns
-returns c = divided _ (c .before .args .z) _ (toZ-ofZ (c .before .fits .z)) metre
-
 pub in-metres-spec : {M : Type 1} → statement M
-in-metres-spec = tie.close (tie.spec int-to-float-result returns)
+in-metres-spec =
+    tie.close
+    (tie.spec int-to-float-result (λ c. divided _ (c .before .args .z) _ (toZ-ofZ (c .before .fits .z)) metre))

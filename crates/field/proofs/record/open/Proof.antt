@@ -11,8 +11,8 @@ use mir.Val.{toZ, ofZ}
 use Rattle.algebra.proofs.Machine.{answered}
 use Rattle.octets.specs.Octets.{signedAt}
 use Rattle.mark.specs.declared.Vec3.{Vec3}
-use Rattle.codec.specs.Layout.{vectorAt}
-use Rattle.codec.proofs.LayoutLaws.{site-long}
+use Rattle.layout.specs.Layout.{vectorAt}
+use Rattle.layout.proofs.LayoutLaws.{site-long}
 use Rattle.field.specs.declared.record.Opened.{Opened}
 use Rattle.field.specs.Field.{openedOf}
 use Rattle.field.proofs.record.open.Statement.{statement}

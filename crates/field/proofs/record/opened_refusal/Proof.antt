@@ -11,7 +11,7 @@ use mir.Facts.{toZ-ofZ}
 use Rattle.refusal.specs.Refusal.{Table, first}
 use Rattle.refusal.proofs.RefusalLaws.{positive, passed, passed-last, stopped, stays, onward}
 use Rattle.mark.specs.Mark.{sized}
-use Rattle.card.specs.Checks.{headChecks}
+use Rattle.head.specs.Head.{headChecks}
 use Rattle.field.specs.declared.record.Opened.{Opened}
 use Rattle.field.specs.Field.{openedChecks}
 use Rattle.field.proofs.record.opened_refusal.Statement.{statement}
@@ -19,8 +19,8 @@ use Rattle.field.proofs.record.opened_refusal.Tie as tie
 
 -- ---- the table in its parts
 
-abbrev head : Bool → Opened → Table
-head z f = headChecks (f .site) (f .frame) (z && leb (f .tide) 1) (f .epoch) (f .mark)
+abbrev from2 : Bool → Opened → Table
+from2 z f = headChecks (f .site) (f .frame) (z && leb (f .tide) 1) (f .epoch) (f .mark)
 
 abbrev from8 : Opened → Table
 from8 f = (8, not (sized 10000000 (f .offset))) ∷ []
@@ -28,18 +28,18 @@ from8 f = (8, not (sized 10000000 (f .offset))) ∷ []
 abbrev from7 : Opened → Table
 from7 f = (7, not (sized 5000 (f .speed))) ∷ from8 f
 
-whole : (z : Bool) (f : Opened) → first (head z f ++ from7 f) ≡ first (openedChecks z f)
+whole : (z : Bool) (f : Opened) → first (from2 z f ++ from7 f) ≡ first (openedChecks z f)
 unfolding openedChecks
 whole z f = refl
 
-all-positive : (z : Bool) (f : Opened) → positive (head z f) ≡ true
+all-positive : (z : Bool) (f : Opened) → positive (from2 z f) ≡ true
 unfolding positive
 all-positive z f = refl
 
 -- ---- the tests
 
-head-is : (c : tie.After-check-head) → let s = c .before .before .before .before in c .check-head .result ≡ first (head (s .args .zeros) (s .args .f))
-head-is c =
+from2-is : (c : tie.After-check-head) → let s = c .before .before .before .before in c .check-head .result ≡ first (from2 (s .args .zeros) (s .args .f))
+from2-is c =
     let t = c .before in
     let s = t .before .before .before in
     c .check-head .ensures
@@ -50,14 +50,14 @@ returns : tie.Need-returns
 returns c =
     let h = c .before in
     let a = h .before .before .before .before .args in
-    let e = head-is h in
-    e ∙ sym (stays (head (a .zeros) (a .f)) (from7 (a .f)) (pos-of-ne-zero (λ z. c .if1 .taken (e ∙ z)))) ∙ whole (a .zeros) (a .f)
+    let e = from2-is h in
+    e ∙ sym (stays (from2 (a .zeros) (a .f)) (from7 (a .f)) (pos-of-ne-zero (λ z. c .if1 .taken (e ∙ z)))) ∙ whole (a .zeros) (a .f)
 
 on1 : (c : tie.Else1) → let a = c .before .before .before .before .before .args in first (from7 (a .f)) ≡ first (openedChecks (a .zeros) (a .f))
 on1 c =
     let h = c .before in
     let a = h .before .before .before .before .args in
-    sym (onward (head (a .zeros) (a .f)) (from7 (a .f)) (all-positive (a .zeros) (a .f)) (sym (head-is h) ∙ c .if1 .left)) ∙ whole (a .zeros) (a .f)
+    sym (onward (from2 (a .zeros) (a .f)) (from7 (a .f)) (all-positive (a .zeros) (a .f)) (sym (from2-is h) ∙ c .if1 .left)) ∙ whole (a .zeros) (a .f)
 
 on2 : (c : tie.Else2) → let a = c .before .before .before .before .before .before .before .args in first (from8 (a .f)) ≡ first (openedChecks (a .zeros) (a .f))
 on2 c =

@@ -23,15 +23,9 @@ at-47 : (s : List ℕ) → getD s 11 0 ≡ 0 → getD s 46 0 ≡ 0 → eqb (getD
 unfolding zeroBytes
 at-47 s e f = rw (eq-eqb (getD s 11 0) 0 e, eq-eqb (getD s 46 0) 0 f)
 
-returns : tie.Need-returns
-returns c = at-11 (c .before .before .args .s .now) (c .if1 .taken)
-
-returns-2 : tie.Need-returns-2
-returns-2 c = at-46 (c .before .before .before .before .args .s .now) (c .before .before .if1 .left) (c .if2 .taken)
-
-returns-3 : tie.Need-returns-3
-returns-3 c = at-47 (c .before .before .before .before .before .args .s .now) (c .before .before .before .if1 .left) (c .before .if2 .left)
-
 pub zero-bytes-spec : {M : Type 1} → statement M
 zero-bytes-spec =
-    tie.close (tie.spec (λ c. search needs) returns (λ c. search needs) returns-2 (λ c. search needs) returns-3)
+    tie.close
+    (tie.spec (λ c. search needs) (λ c. at-11 (c .before .before .args .s .now) (c .if1 .taken)) (λ c. search needs)
+    (λ c. at-46 (c .before .before .before .before .args .s .now) (c .before .before .if1 .left) (c .if2 .taken)) (λ c. search needs)
+    (λ c. at-47 (c .before .before .before .before .before .args .s .now) (c .before .before .before .if1 .left) (c .before .if2 .left)))

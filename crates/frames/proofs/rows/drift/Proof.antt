@@ -24,18 +24,11 @@ sum c =
     v+ (at (shift (c .before)) (lit< tt))
     (vnear 100000 107374183 (c .near .ensures) (at (scaled (c .before)) (lit< tt)) (lit≤ tt) (lit< tt))
 
-mul-result : tie.Need-mul-result
-mul-result c = fit (shift c) (lit< tt)
-
-mul-near : tie.Need-mul-near
-mul-near c = fit (scaled c) (lit< tt)
-
-add-result : tie.Need-add-result
-add-result c = fit (sum c) (lit< tt)
-
 returns : tie.Need-returns
 unfolding drift
 returns c = at (sum c) (lit< tt) .told
 
 pub drift-spec : {M : Type 1} → statement M
-drift-spec = tie.close (tie.spec mul-result mul-near (λ c κs. search needs) add-result returns)
+drift-spec =
+    tie.close
+    (tie.spec (λ c. fit (shift c) (lit< tt)) (λ c. fit (scaled c) (lit< tt)) (λ c κs. search needs) (λ c. fit (sum c) (lit< tt)) returns)

@@ -27,21 +27,12 @@ sum c =
     v+ (at (shift (c .before)) (lit< tt))
     (vnear 100000 156873680487 (c .near .ensures) (at (scaled (c .before)) (lit< tt)) (lit≤ tt) (lit< tt))
 
-mul-result : tie.Need-mul-result
-mul-result c = fit (shift c) (lit< tt)
-
-mul-near : tie.Need-mul-near
-mul-near c = fit (scale c) (lit< tt)
-
-mul-near-2 : tie.Need-mul-near-2
-mul-near-2 c = fit (scaled c) (lit< tt)
-
-add-result : tie.Need-add-result
-add-result c = fit (sum c) (lit< tt)
-
 returns : tie.Need-returns
 unfolding offset
 returns c = at (sum c) (lit< tt) .told
 
 pub offset-spec : {M : Type 1} → statement M
-offset-spec = tie.close (tie.spec mul-result mul-near mul-near-2 (λ c κs. search needs) add-result returns)
+offset-spec =
+    tie.close
+    (tie.spec (λ c. fit (shift c) (lit< tt)) (λ c. fit (scale c) (lit< tt)) (λ c. fit (scaled c) (lit< tt)) (λ c κs. search needs)
+    (λ c. fit (sum c) (lit< tt)) returns)

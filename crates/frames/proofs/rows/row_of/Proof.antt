@@ -20,14 +20,8 @@ other (suc zero) h k = absurd (h refl)
 other (suc (suc zero)) h k = absurd (k refl)
 other (suc (suc (suc n))) h k = refl
 
-returns : tie.Need-returns
-returns c = first (c .before .args .code) (c .match .keys1)
-
-returns-2 : tie.Need-returns-2
-returns-2 c = second (c .before .args .code) (c .match .keys2)
-
-returns-3 : tie.Need-returns-3
-returns-3 c = other (c .before .args .code) (c .match .rest .0 .1) (c .match .rest .1)
-
 pub row-of-spec : {M : Type 1} → statement M
-row-of-spec = tie.close (tie.spec returns returns-2 returns-3)
+row-of-spec =
+    tie.close
+    (tie.spec (λ c. first (c .before .args .code) (c .match .keys1)) (λ c. second (c .before .args .code) (c .match .keys2))
+    (λ c. other (c .before .args .code) (c .match .rest .0 .1) (c .match .rest .1)))

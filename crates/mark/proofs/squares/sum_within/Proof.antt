@@ -51,21 +51,6 @@ y-square c = square (c .before .before .before .before .magnitude2 .result) (c .
 z-square : (c : tie.Else3) → c .before .magnitude3 .result * c .before .magnitude3 .result < 2 ^ 60
 z-square c = square (c .before .magnitude3 .result) (c .before .before .before .before .before .before .before .before .before .args .high) (c .if3 .left) (c .before .before .before .before .before .before .before .before .before .pre .1)
 
-mul-n : tie.Need-mul-n
-mul-n c = omega (arith, x-square c)
-
-mul-n-2 : tie.Need-mul-n-2
-mul-n-2 c = omega (arith, y-square c)
-
-add-n : tie.Need-add-n
-add-n c = omega (arith, x-square c, y-square c)
-
-mul-n-3 : tie.Need-mul-n-3
-mul-n-3 c = omega (arith, z-square c)
-
-add-n-2 : tie.Need-add-n-2
-add-n-2 c = omega (arith, x-square c, y-square c, z-square c)
-
 summed : (v : Vec3) (a b c : ℕ) → a ≡ natAbs (v .x) → b ≡ natAbs (v .y) → c ≡ natAbs (v .z) → a * a + b * b + c * c ≡ squares v
 unfolding squares
 summed v a b c e f g = rw (e, f, g)
@@ -107,5 +92,6 @@ returns-6 c =
 pub sum-within-spec : {M : Type 1} → statement M
 sum-within-spec =
     tie.close
-    (tie.spec (λ c κs. search needs) returns (λ c κs. search needs) returns-2 (λ c κs. search needs) returns-3 mul-n mul-n-2 add-n mul-n-3 add-n-2
-    mul-if4 returns-4 (λ c. search needs) mul-if5 returns-5 returns-6)
+    (tie.spec (λ c κs. search needs) returns (λ c κs. search needs) returns-2 (λ c κs. search needs) returns-3 (λ c. omega (arith, x-square c))
+    (λ c. omega (arith, y-square c)) (λ c. omega (arith, x-square c, y-square c)) (λ c. omega (arith, z-square c))
+    (λ c. omega (arith, x-square c, y-square c, z-square c)) mul-if4 returns-4 (λ c. search needs) mul-if5 returns-5 returns-6)

@@ -1,12 +1,12 @@
 -- `replay::records::answer_buffer` is safe and ends: the part lent is as long as asked, within the array. Assumes nothing.
-use mathlib.Core.Path.{sym}
+use mathlib.Core.Path.{refl}
 use borrow.Author.Needs.{needs}
-use lib.Seq.{length-take-le}
+use Rattle.wire.proofs.PartLaws.{part-length}
 use Rattle.replay.proofs.records.answer_buffer.Statement.{statement}
 use Rattle.replay.proofs.records.answer_buffer.Tie as tie
 
 slice-aggregate-put-written : tie.Need-slice-aggregate-put-written
-slice-aggregate-put-written c = sym (length-take-le (c .before .before .before .at-most .result) _ (c .before .before .before .at-most .ensures))
+slice-aggregate-put-written c = part-length _ _ _ (c .before .before .before .at-most .ensures) refl
 
 pub answer-buffer-spec : {M : Type 1} → statement M
 answer-buffer-spec =

@@ -15,9 +15,9 @@ no-nan (inf s) e = tt
 no-nan (fin s m d) e = tt
 
 float-to-bits-print-hex : tie.Need-float-to-bits-print-hex
-float-to-bits-print-hex c = no-nan (c .before .args .x) (c .if1 .left)
+float-to-bits-print-hex c = no-nan (c .before .before .before .args .x) (c .if1 .left)
 
 pub put-double-spec : {M : Type 1} → statement M
 put-double-spec =
     tie.close
-    (tie.spec (λ c. search needs) (λ c κs. search needs) (λ c. search needs) float-to-bits-print-hex (λ c κs. search needs) (λ c. search needs))
+    (tie.spec (λ c. search needs) (λ c κs. search needs) (λ c. search needs) (λ c κs. search needs) (λ c. search needs) float-to-bits-print-hex (λ c κs. search needs) (λ c. search needs))

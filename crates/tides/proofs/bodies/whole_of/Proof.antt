@@ -42,12 +42,6 @@ from x r e = ap told e ∙ told-is (wholeOf x)
 enum-told : tie.Need-enum-told
 enum-told c = search needs
 
-returns : tie.Need-returns
-returns c = from (c .before .before .before .args .x) NotFinite (sym (c .enum-told .given .1) ∙ c .before .before .whole .ensures)
-
-returns-2 : tie.Need-returns-2
-returns-2 c = from (c .before .before .before .args .x) Far (sym (c .enum-told2 .given .1) ∙ c .before .before .whole .ensures)
-
 returns-3 : tie.Need-returns-3
 returns-3 c =
     let z = c .before .w .given .0 .0 in
@@ -57,4 +51,6 @@ returns-3 c =
 pub whole-of-spec : {M : Type 1} → statement M
 whole-of-spec =
     tie.close
-    (tie.spec (λ c κs. search needs) enum-told (λ c. search needs) (λ c. search needs) returns returns-2 returns-3)
+    (tie.spec (λ c κs. search needs) enum-told (λ c. search needs) (λ c. search needs)
+    (λ c. from (c .before .before .before .args .x) NotFinite (sym (c .enum-told .given .1) ∙ c .before .before .whole .ensures))
+    (λ c. from (c .before .before .before .args .x) Far (sym (c .enum-told2 .given .1) ∙ c .before .before .whole .ensures)) returns-3)

@@ -18,12 +18,6 @@ thrice c = v* (lit 3) (given (c .fits .s) (c .pre))
 less : (c : tie.Start) → Va (toZ w64 (ofZ w64 (pos 3 *ℤ toZ w64 (ofZ w64 (c .args .s)))) -ℤ pos 1073741824) (pos 3 *ℤ c .args .s -ℤ pos E) (3 * 2 ^ 31 + E)
 less c = v- (at (thrice c) (lit< tt)) (lit E)
 
-mul-near : tie.Need-mul-near
-mul-near c = fit (thrice c) (lit< tt)
-
-sub-near : tie.Need-sub-near
-sub-near c = fit (less c) (lit< tt)
-
 named : (s z : ℤ) → z ≡ pos 3 *ℤ s -ℤ pos E → near z 2 ≡ legendre s
 unfolding legendre
 named s z e = ap (λ (p : ℤ). near p 2) e
@@ -35,4 +29,6 @@ returns c =
     ∙ named (c .before .args .s) _ (at (less (c .before)) (lit< tt) .told)
 
 pub legendre-spec : {M : Type 1} → statement M
-legendre-spec = tie.close (tie.spec mul-near sub-near (λ c κs. search needs) returns)
+legendre-spec =
+    tie.close
+    (tie.spec (λ c. fit (thrice c) (lit< tt)) (λ c. fit (less c) (lit< tt)) (λ c κs. search needs) returns)

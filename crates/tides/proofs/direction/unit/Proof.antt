@@ -16,9 +16,6 @@ use Rattle.tides.proofs.direction.unit.Tie as tie
 product : (c : tie.Start) → Va (toZ w64 (ofZ w64 (c .args .m)) *ℤ pos 1073741824) (c .args .m *ℤ pos E) (1073741824 * E)
 product c = v* (given (c .fits .m) (le-of-lt (c .pre))) (lit E)
 
-mul-near : tie.Need-mul-near
-mul-near c = fit (product c) (lit< tt)
-
 named : (l : ℕ) (m z : ℤ) → z ≡ m *ℤ pos E → near z l ≡ unit l m
 unfolding unit
 named l m z e = ap (λ (p : ℤ). near p l) e
@@ -30,4 +27,6 @@ returns c =
     ∙ named (c .before .args .l) (c .before .args .m) _ (at (product (c .before)) (lit< tt) .told)
 
 pub unit-spec : {M : Type 1} → statement M
-unit-spec = tie.close (tie.spec mul-near (λ c κs. search needs) returns)
+unit-spec =
+    tie.close
+    (tie.spec (λ c. fit (product c) (lit< tt)) (λ c κs. search needs) returns)

@@ -19,12 +19,6 @@ small z f h = omega (arith, ap natAbs (toZ-ofZ f))
 came : (l : ℕ) (z r : ℤ) → SFits w64 z → SFits w64 r → r ≡ unit l (toZ w64 (ofZ w64 z)) → toZ w64 (ofZ w64 r) ≡ unit l z
 came l z r f g e = toZ-ofZ g ∙ e ∙ ap (unit l) (toZ-ofZ f)
 
-unit-requires : tie.Need-unit-requires
-unit-requires c κs = small (c .before .args .v .x) (record { sfits = c .struct-told .given .0 .1 }) (c .before .pre .x)
-
-unit-requires-2 : tie.Need-unit-requires-2
-unit-requires-2 c κs = small (c .before .before .before .args .v .y) (record { sfits = c .struct-told2 .given .1 .0 .1 }) (c .before .before .before .pre .y)
-
 unit-requires-3 : tie.Need-unit-requires-3
 unit-requires-3 c κs = small (c .before .before .before .before .before .args .v .z) (record { sfits = c .struct-told3 .given .1 .1 .0 .1 }) (c .before .before .before .before .before .pre .z)
 
@@ -42,4 +36,8 @@ returns c =
     (came l (v .z) (c .unit3 .result) (record { sfits = c .before .struct-told3 .given .1 .1 .0 .1 }) (record { sfits = c .unit3 .ok }) (c .unit3 .ensures))
 
 pub units-spec : {M : Type 1} → statement M
-units-spec = tie.close (tie.spec unit-requires unit-requires-2 unit-requires-3 returns)
+units-spec =
+    tie.close
+    (tie.spec (λ c κs. small (c .before .args .v .x) (record { sfits = c .struct-told .given .0 .1 }) (c .before .pre .x))
+    (λ c κs. small (c .before .before .before .args .v .y) (record { sfits = c .struct-told2 .given .1 .0 .1 }) (c .before .before .before .pre .y))
+    unit-requires-3 returns)

@@ -23,9 +23,6 @@ abbrev μ-loop : tie.MeasureT-loop
 room : (c : tie.In-loop Inv-loop μ-loop) → (3 * c .before .loop .i + 3 ≤ lib.ListN.length (c .before .loop .out)) × (lib.ListN.length (c .before .loop .out) * 8 < 2 ^ 63)
 room c = (omega arith, omega arith)
 
-loop-holds : tie.Need-loop-holds Inv-loop μ-loop
-loop-holds c = (omega arith, refl, ap (shiftsFrom (c .before .args .u) (c .before .args .bodies .now) 0) (sub-zero (c .before .args .rows)))
-
 loop-again : tie.Need-loop-again Inv-loop μ-loop
 loop-again c =
     let t = c .before .before .before in
@@ -48,9 +45,6 @@ loop-again c =
           ∙ g .before .loop .inv .2,
     )
 
-same-length : tie.Need-same-length Inv-loop μ-loop
-same-length c = c .before .loop .inv .1
-
 returns : tie.Need-returns Inv-loop μ-loop
 returns c =
     let g = c .before in
@@ -62,8 +56,10 @@ returns c =
 pub fill-spec : {M : Type 1} → statement M
 fill-spec =
     tie.close
-    (tie.spec Inv-loop μ-loop loop-holds (λ c. omega arith) (λ c. omega arith) (λ c κs. omega arith) (λ c. omega arith) (λ c κs. omega arith)
-    (λ c κs. search needs) (λ c. omega (arith, room (c .before .before .before .before .before .before)))
+    (tie.spec Inv-loop μ-loop
+    (λ c. (omega arith, refl, ap (shiftsFrom (c .before .args .u) (c .before .args .bodies .now) 0) (sub-zero (c .before .args .rows))))
+    (λ c. omega arith) (λ c. omega arith) (λ c κs. omega arith) (λ c. omega arith) (λ c κs. omega arith) (λ c κs. search needs)
+    (λ c. omega (arith, room (c .before .before .before .before .before .before)))
     (λ c. omega (arith, room (c .before .before .before .before .before .before)))
     (λ c. omega (arith, room (c .before .before .before .before .before .before)))
     (λ c. omega (arith, room (c .before .before .before .before .before .before)))
@@ -71,4 +67,5 @@ fill-spec =
     (λ c. omega (arith, room (c .before .before .before .before .before .before)))
     (λ c. omega (arith, room (c .before .before .before .before .before .before)))
     (λ c. simp length-set (omega (arith, room (c .before .before .before .before .before .before))))
-    (λ c. omega (arith, room (c .before .before .before .before .before .before))) (λ c. omega arith) loop-again same-length returns)
+    (λ c. omega (arith, room (c .before .before .before .before .before .before))) (λ c. omega arith) loop-again (λ c. c .before .loop .inv .1)
+    returns)

@@ -44,9 +44,6 @@ found c =
     (b1 .body-at .result) (b2 .body-at2 .result) (s1 .see .result) (s2 .see2 .result) (c .both .result)
     (b1 .body-at .ensures) (b2 .body-at2 .ensures) (s1 .see .ensures) (s2 .see2 .ensures) (c .both .ensures)
 
-rows-holds : tie.Need-rows-holds Inv-loop μ-loop Inv-rows μ-rows
-rows-holds c = (omega arith, ap (scan (c .before .args .bodies .now) 0) (sub-zero (c .before .args .rows)))
-
 rows-again : tie.Need-rows-again Inv-loop μ-loop Inv-rows μ-rows
 rows-again c =
     let r = c .before .before .before .before .before .before .before .before .before in
@@ -96,7 +93,7 @@ returns-3 c =
 pub scan-spec : {M : Type 1} → statement M
 scan-spec =
     tie.close
-    (tie.spec Inv-loop μ-loop Inv-rows μ-rows rows-holds (λ c. omega arith) (λ c. omega arith) (λ c. omega arith) (λ c. omega arith)
-    (λ c. omega arith) (λ c κs. search needs) (λ c. omega arith) (λ c. omega arith) (λ c. omega arith) (λ c. omega arith) (λ c κs. omega arith)
-    (λ c κs. search needs) (λ c. omega arith) (λ c. omega arith) (λ c κs. omega arith) (λ c κs. search needs) (λ c κs. search needs)
-    (λ c. omega arith) (λ c. omega arith) rows-again returns returns-2 returns-3)
+    (tie.spec Inv-loop μ-loop Inv-rows μ-rows (λ c. (omega arith, ap (scan (c .before .args .bodies .now) 0) (sub-zero (c .before .args .rows))))
+    (λ c. omega arith) (λ c. omega arith) (λ c. omega arith) (λ c. omega arith) (λ c. omega arith) (λ c κs. search needs) (λ c. omega arith)
+    (λ c. omega arith) (λ c. omega arith) (λ c. omega arith) (λ c κs. omega arith) (λ c κs. search needs) (λ c. omega arith) (λ c. omega arith)
+    (λ c κs. omega arith) (λ c κs. search needs) (λ c κs. search needs) (λ c. omega arith) (λ c. omega arith) rows-again returns returns-2 returns-3)

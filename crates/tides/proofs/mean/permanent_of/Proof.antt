@@ -82,45 +82,6 @@ steep-is c = v- (at (sum-is c) (lit< tt)) (at (twice-w c) (lit< tt))
 
 -- ---- the needs
 
-times-requires : tie.Need-times-requires
-times-requires c κs = fit (v* (uz c) (uz c)) (lit< tt)
-
-legendre-requires : tie.Need-legendre-requires
-legendre-requires c κs = subst⁻¹ (λ (z : ℤ). natAbs z ≤ 2 ^ 31) (s-is c .told) (le-trans (s-is c .small) (lit≤ tt))
-
-times-requires-2 : tie.Need-times-requires-2
-times-requires-2 c κs = fit (v* (lit 146100) (p-is c)) (lit< tt)
-
-sub-times : tie.Need-sub-times
-sub-times c = fit (less c) (lit< tt)
-
-times-requires-3 : tie.Need-times-requires-3
-times-requires-3 c κs = fit (v* (at (less c) (lit< tt)) (p-is (c .before))) (lit< tt)
-
-sub-t : tie.Need-sub-t
-sub-t c = fit (t-is (c .before)) (lit< tt)
-
-times-requires-4 : tie.Need-times-requires-4
-times-requires-4 c κs = fit (v* (at (t-is (c .before)) (lit< tt)) (s-is (c .before .before .before))) (lit< tt)
-
-mul-level : tie.Need-mul-level
-mul-level c = fit (twice-w c) (lit< tt)
-
-sub-level : tie.Need-sub-level
-sub-level c = fit (level-is c) (lit< tt)
-
-mul-steep : tie.Need-mul-steep
-mul-steep c = fit (twice-t c) (lit< tt)
-
-add-steep : tie.Need-add-steep
-add-steep c = fit (sum-is c) (lit< tt)
-
-mul-steep-2 : tie.Need-mul-steep-2
-mul-steep-2 c = fit (twice-w c) (lit< tt)
-
-sub-steep : tie.Need-sub-steep
-sub-steep c = fit (steep-is c) (lit< tt)
-
 ux : (c : tie.After-struct-told3) → Va (rd (c .before .before .before .before .before .before .before .before .args .u .x)) (c .before .before .before .before .before .before .before .before .args .u .x) E
 ux c = given (record { sfits = c .struct-told3 .given .0 .1 }) (c .before .before .before .before .before .before .before .before .pre .x)
 
@@ -129,15 +90,6 @@ uy c = given (record { sfits = c .struct-told4 .given .1 .0 .1 }) (c .before .be
 
 uz-2 : (c : tie.After-struct-told5) → Va (rd (c .before .before .before .before .before .before .before .before .before .before .before .before .args .u .z)) (c .before .before .before .before .before .before .before .before .before .before .before .before .args .u .z) E
 uz-2 c = given (record { sfits = c .struct-told5 .given .1 .1 .0 .1 }) (c .before .before .before .before .before .before .before .before .before .before .before .before .pre .z)
-
-times-requires-5 : tie.Need-times-requires-5
-times-requires-5 c κs = fit (v* (at (level-is (c .before)) (lit< tt)) (ux c)) (lit< tt)
-
-times-requires-6 : tie.Need-times-requires-6
-times-requires-6 c κs = fit (v* (at (level-is (c .before .before .before)) (lit< tt)) (uy c)) (lit< tt)
-
-times-requires-7 : tie.Need-times-requires-7
-times-requires-7 c κs = fit (v* (at (steep-is (c .before .before .before .before .before)) (lit< tt)) (uz-2 c)) (lit< tt)
 
 named : (u : Vec3) (x y z : ℤ) → x ≡ times (level u) (u .x) → y ≡ times (level u) (u .y) → z ≡ times (steep u) (u .z) → vec x y z ≡ permanentOf u
 unfolding permanentOf s2 small radial north down across along
@@ -154,5 +106,12 @@ returns c =
 pub permanent-of-spec : {M : Type 1} → statement M
 permanent-of-spec =
     tie.close
-    (tie.spec times-requires legendre-requires times-requires-2 sub-times times-requires-3 sub-t times-requires-4 mul-level sub-level mul-steep
-    add-steep mul-steep-2 sub-steep times-requires-5 times-requires-6 times-requires-7 returns)
+    (tie.spec (λ c κs. fit (v* (uz c) (uz c)) (lit< tt))
+    (λ c κs. subst⁻¹ (λ (z : ℤ). natAbs z ≤ 2 ^ 31) (s-is c .told) (le-trans (s-is c .small) (lit≤ tt)))
+    (λ c κs. fit (v* (lit 146100) (p-is c)) (lit< tt)) (λ c. fit (less c) (lit< tt))
+    (λ c κs. fit (v* (at (less c) (lit< tt)) (p-is (c .before))) (lit< tt)) (λ c. fit (t-is (c .before)) (lit< tt))
+    (λ c κs. fit (v* (at (t-is (c .before)) (lit< tt)) (s-is (c .before .before .before))) (lit< tt)) (λ c. fit (twice-w c) (lit< tt))
+    (λ c. fit (level-is c) (lit< tt)) (λ c. fit (twice-t c) (lit< tt)) (λ c. fit (sum-is c) (lit< tt)) (λ c. fit (twice-w c) (lit< tt))
+    (λ c. fit (steep-is c) (lit< tt)) (λ c κs. fit (v* (at (level-is (c .before)) (lit< tt)) (ux c)) (lit< tt))
+    (λ c κs. fit (v* (at (level-is (c .before .before .before)) (lit< tt)) (uy c)) (lit< tt))
+    (λ c κs. fit (v* (at (steep-is (c .before .before .before .before .before)) (lit< tt)) (uz-2 c)) (lit< tt)) returns)

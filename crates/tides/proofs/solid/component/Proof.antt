@@ -56,21 +56,6 @@ whole :
     (500000000 * E + 200000000 * (E + 1073742006))
 whole c = v+ (at (up (c .before)) (lit< tt)) (at (side c) (lit< tt))
 
-mul-near : tie.Need-mul-near
-mul-near c = fit (up c) (lit< tt)
-
-times-requires : tie.Need-times-requires
-times-requires c κs = fit (along c) (lit< tt)
-
-sub-near : tie.Need-sub-near
-sub-near c = fit (across c) (lit< tt)
-
-mul-near-2 : tie.Need-mul-near-2
-mul-near-2 c = fit (side c) (lit< tt)
-
-add-near : tie.Need-add-near
-add-near c = fit (whole c) (lit< tt)
-
 named :
     (rho t c u d z : ℤ) → z ≡ rho *ℤ u +ℤ t *ℤ (d -ℤ times c u) → near z 1073741824 ≡ component rho t c u d
 unfolding component
@@ -85,4 +70,6 @@ returns c =
 
 pub component-spec : {M : Type 1} → statement M
 component-spec =
-    tie.close (tie.spec mul-near times-requires sub-near mul-near-2 add-near (λ c κs. search needs) returns)
+    tie.close
+    (tie.spec (λ c. fit (up c) (lit< tt)) (λ c κs. fit (along c) (lit< tt)) (λ c. fit (across c) (lit< tt)) (λ c. fit (side c) (lit< tt))
+    (λ c. fit (whole c) (lit< tt)) (λ c κs. search needs) returns)

@@ -1,0 +1,3 @@
+-- The laws of the layout.
+pub mod LayoutLaws
+pub mod RunLaws

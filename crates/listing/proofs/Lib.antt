@@ -1,0 +1,2 @@
+-- The laws of the listing line.
+pub mod LineLaws

@@ -1,0 +1,13 @@
+-- `listing::text::put_byte` meets its contract: a `set` past the end changes nothing. Assumes nothing.
+use mathlib.Core.Path.{sym}
+use native.Mathlib.Omega.{arith}
+use borrow.Author.Needs.{needs}
+use lib.Seq.{set-out}
+use Rattle.listing.proofs.text.put_byte.Statement.{statement}
+use Rattle.listing.proofs.text.put_byte.Tie as tie
+
+returns-2 : tie.Need-returns-2
+returns-2 c = let a = c .before .args in sym (set-out (a .out .now) (a .at) (a .b) (omega arith))
+
+pub put-byte-spec : {M : Type 1} → statement M
+put-byte-spec = tie.close (tie.spec (λ c. search needs) (λ c. search needs) (λ c. search needs) returns-2)

@@ -1,0 +1,2 @@
+-- The listing line.
+pub mod Line

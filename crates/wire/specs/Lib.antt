@@ -1,0 +1,2 @@
+-- The parts of a vector's payload.
+pub mod Payload
