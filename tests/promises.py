@@ -1,7 +1,7 @@
 """Every function that another crate or C can call has a promise and asks for nothing: an `ensures`, no `requires`.
 
-A function with no `->` and no `&mut` parameter needs no `ensures`: it answers nothing and writes to no memory of its caller. What it prints, the
-logic has no word for.
+One exception, counted apart and named: a function of `wire`, which serves two test programs alone, that answers nothing and is lent nothing to
+write to. It prints, and what is printed the logic has no word for, so it has no promise.
 
 Reads crates.txt and the sources below crates/; prints what fails, and ends with status 1 where anything does.
 """
@@ -59,17 +59,20 @@ def silent(signature):
 
 
 def main():
-    count, failed = 0, 0
+    count, failed, printing = 0, 0, []
     for crate in libraries():
         for path, lines in reached(f"crates/{crate}/src/lib.rt"):
             for name, line, signature, clauses in functions(lines):
                 count += 1
-                promised = "ensures" in clauses or silent(signature)
-                wrong = ["no ensures"] * (not promised) + ["a requires"] * ("requires" in clauses)
+                if crate == "wire" and not clauses and silent(signature):
+                    printing.append(name)
+                    continue
+                wrong = ["no ensures"] * ("ensures" not in clauses) + ["a requires"] * ("requires" in clauses)
                 if wrong:
                     failed += 1
                     print(f"{path}:{line}: {crate}::{name} has {' and '.join(wrong)}")
-    print(f"promises: {count - failed} passed, {failed} failed")
+    print(f"wire has no promise for what prints: {', '.join(printing)}")
+    print(f"promises: {count - failed - len(printing)} passed, {failed} failed, {len(printing)} skipped")
     return 1 if failed else 0
 
 
