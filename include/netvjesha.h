@@ -2,9 +2,10 @@
  *
  * Units      1,461 grains are a micrometre, 1,461,000,000 grains a metre.
  *            Time is whole quarter-days from 2000.0; 1,461 of them are a year.
- * Card       88 bytes. Field record: 48 bytes. Both big-endian, two's complement.
- * Status     Every function but nv_find answers a number, 0 when it accepts. The numbers beside a function stand in the order
- *            in which they are looked for, and the first that is met is given. A refused call writes nothing.
+ * Card       88 bytes. Field record: 48 bytes. Both big-endian, two's complement. docs/RULES.md has both layouts, byte by byte.
+ * Status     A number, 0 when accepted. Most functions answer it; nv_series and nv_check_catalogue answer it + 256 x a count, so
+ *            that it is the answer % 256; nv_find answers a place and no status. The numbers beside a function stand in the
+ *            order in which they are looked for, and the first that is met is given. A refused call writes nothing.
  * Slices     A pointer and a count of elements. A count of 0 may come with NULL. Input and output must not overlap.
  *
  *  1 a length          2 site              3 unknown frame          4 byte 10, a zero byte, or a tide vector with no tide on

@@ -1,9 +1,9 @@
 """Writes the vectors of docs/VECTORS.md: make_vectors.py OUTDIR.
 
-stdin and stdout of OUTDIR/replay_shifts (numbers, frames and tides) and of
-OUTDIR/replay (records, calls and catalogues), and OUTDIR/VECTORS-COUNT.md with
-the count of vectors per kind and of calls per refusal number. Nothing else is
-touched.
+stdin and stdout of OUTDIR/replay_shifts (numbers, frames and tides), of
+OUTDIR/replay (records and calls) and of OUTDIR/replay_catalogues (catalogues),
+and OUTDIR/VECTORS-COUNT.md with the count of vectors per kind and of calls per
+refusal number. Nothing else is touched.
 """
 
 import os
@@ -14,19 +14,21 @@ import gen_catalogue
 import gen_numbers
 import gen_records
 import gen_tides
+import gen_unseen
 import replay
 import wire
 from chance import Chance
 
-MOST = 3_000_000  # bytes of both stdin
+MOST = 3_000_000  # bytes of every stdin together
 
 # The program that answers each kind.
-PROGRAMS = {kind: "replay_shifts" if kind <= wire.SERIES else "replay" for kind in wire.NAMES}
+PROGRAMS = {kind: "replay_shifts" if kind <= wire.SERIES else
+            "replay" if kind <= wire.CALLS else "replay_catalogues" for kind in wire.NAMES}
 
 # Each source and its seed. A new one comes last, so that what stands stays as it is.
 SOURCES = ((gen_numbers.share, 36), (gen_tides.payloads, 37), (gen_records.payloads, 38),
            (gen_calls.payloads, 39), (gen_catalogue.payloads, 40),
-           (gen_numbers.payloads, 1461), (gen_catalogue.checks, 41))
+           (gen_numbers.payloads, 1461), (gen_catalogue.checks, 41), (gen_unseen.payloads, 42))
 
 # Every number that each call can give; "own" are those after its card's check.
 CARD = (2, 3, 4, 5, 6, 7, 8, 9)

@@ -1,8 +1,5 @@
 """Every function that another crate or C can call has a promise and asks for nothing: an `ensures`, no `requires`.
 
-One exception, counted apart and named: a function of `wire`, which serves two test programs alone, that answers nothing and is lent nothing to
-write to. It prints, and what is printed the logic has no word for, so it has no promise.
-
 Reads crates.txt and the sources below crates/; prints what fails, and ends with status 1 where anything does.
 """
 
@@ -36,43 +33,32 @@ def reached(path):
 
 
 def functions(lines):
-    """Each public function's name, its line, its signature, and the clauses before its body."""
+    """Each public function's name, its line, and the clauses before its body."""
     for at, line in enumerate(lines):
         head = HEAD.match(line)
         if not head:
             continue
-        signature, clauses = "", []
+        clauses = []
         for below in lines[at:]:
             clause = CLAUSE.match(below)
             if clause:
                 clauses.append(clause.group(1))
-            elif not clauses:
-                signature += below
-            if not clause and below.rstrip().endswith("{"):
+            elif below.rstrip().endswith("{"):
                 break
-        yield head.group(1), at + 1, signature, clauses
-
-
-def silent(signature):
-    """It answers nothing and is lent nothing to write to."""
-    return "->" not in signature and not re.search(r"&('\w+ )?mut\b", signature)
+        yield head.group(1), at + 1, clauses
 
 
 def main():
-    count, failed, printing = 0, 0, []
+    count, failed = 0, 0
     for crate in libraries():
         for path, lines in reached(f"crates/{crate}/src/lib.rt"):
-            for name, line, signature, clauses in functions(lines):
+            for name, line, clauses in functions(lines):
                 count += 1
-                if crate == "wire" and not clauses and silent(signature):
-                    printing.append(name)
-                    continue
                 wrong = ["no ensures"] * ("ensures" not in clauses) + ["a requires"] * ("requires" in clauses)
                 if wrong:
                     failed += 1
                     print(f"{path}:{line}: {crate}::{name} has {' and '.join(wrong)}")
-    print(f"wire has no promise for what prints: {', '.join(printing)}")
-    print(f"promises: {count - failed - len(printing)} passed, {failed} failed, {len(printing)} skipped")
+    print(f"promises: {count - failed} passed, {failed} failed")
     return 1 if failed else 0
 
 

@@ -11,10 +11,11 @@ use lib.ListN.{length, take, drop, replicate, length-take, length-drop}
 use Rattle.card.specs.declared.Answer.{Answer}
 use Rattle.card.specs.Zero.{zeroCard}
 use Rattle.codec.specs.Codec.{readCard, cardLength}
+use Rattle.codec.specs.Parts.{partsFrom, partCount, parts}
 use Rattle.codec.proofs.AnswerLaws.{read-short}
 use Rattle.catalogue.specs.declared.Taken.{Taken}
 use Rattle.catalogue.specs.declared.Reader.{Reader}
-use Rattle.catalogue.specs.Reader.{ended, stepped, takenAt, Seen, seen, answers, partsFrom, partCount, parts, readSeen, doneSeen, Reads, told}
+use Rattle.catalogue.specs.Reader.{ended, stepped, takenAt, Seen, seen, answers, readSeen, doneSeen, Reads, told}
 
 -- ---- the three outcomes of a step
 
@@ -95,6 +96,20 @@ all-answers s k = by (partCount s) refl
     by zero e = let z : 0 + k ≡ k = omega arith in rw z (done-after s 0 k (omega arith))
     by (suc n) e = from-place s 0 n k (omega arith) (omega arith)
 
+-- fewer steps give the first of them
+answers-first : (s : List ℕ) (at n m : ℕ) → answers s at n ≡ take n (answers s at (n + m))
+unfolding answers
+answers-first s at zero m = refl
+answers-first s at (suc n) m =
+    let e : suc n + m ≡ suc (n + m) = omega arith in
+    rw e (ap (λ (l : List Seen). seen (takenAt s at) ∷ l) (answers-first s (takenAt s at .next) n m))
+
+-- any number of steps from a catalogue's start: the first n of its parts read in order, then done for ever
+pub any-answers : (s : List ℕ) (n : ℕ) → answers s 0 n ≡ take n (map readSeen (parts s) ++ replicate n doneSeen)
+any-answers s n =
+    let e : n + partCount s ≡ partCount s + n = omega arith in
+    answers-first s 0 n (partCount s) ∙ ap (λ (k : ℕ). take n (answers s 0 k)) e ∙ ap (take n) (all-answers s n)
+
 -- ---- a reader
 
 reads-answers : (r : Reader) (calls : List (Taken × Reader)) → Reads r calls → told calls ≡ answers (r .src .now) (r .at) (length calls)
@@ -106,12 +121,11 @@ reads-answers r (call ∷ calls) h =
     (reads-answers (call .1) calls (h .1 .1 .1)
     ∙ ap₂ (λ (b : List ℕ) (k : ℕ). answers b k (length calls)) (ap (λ (x : RefT (List ℕ)). x .now) (h .1 .0)) (h .1 .1 .0))
 
--- what a reader over the lent bytes s answers from its start: the reads of the parts in order, then done for ever
+-- what a reader over the lent bytes s answers to any run of calls from its start: the first of the parts read in order, then done for ever
 pub reader-answers :
-    (s : RefT (List ℕ)) (r : Reader) (calls : List (Taken × Reader)) (k : ℕ) → r .src ≡ s → r .at ≡ 0 → Reads r calls → length calls ≡ partCount (s .now) + k
-    → told calls ≡ map readSeen (parts (s .now)) ++ replicate k doneSeen
-reader-answers s r calls k e a h n =
+    (s : RefT (List ℕ)) (r : Reader) (calls : List (Taken × Reader)) → r .src ≡ s → r .at ≡ 0 → Reads r calls
+    → told calls ≡ take (length calls) (map readSeen (parts (s .now)) ++ replicate (length calls) doneSeen)
+reader-answers s r calls e a h =
     reads-answers r calls h
     ∙ ap₂ (λ (b : List ℕ) (i : ℕ). answers b i (length calls)) (ap (λ (x : RefT (List ℕ)). x .now) e) a
-    ∙ ap (answers (s .now) 0) n
-    ∙ all-answers (s .now) k
+    ∙ any-answers (s .now) (length calls)

@@ -2,7 +2,7 @@
 use mathlib.Core.Path.{_≡_}
 use mathlib.Core.Bool.{Bool, true, false, cond}
 use mathlib.Core.List.{List, [], _∷_}
-use Prim.Native.Nat.{ℕ, zero, suc, _+_, _-_, _/_}
+use Prim.Native.Nat.{ℕ, zero, suc, _+_, _-_}
 use lib.Dec.{leb, ltb}
 use lib.ListN.{length, take, drop}
 use Rattle.card.specs.declared.Answer.{Answer}
@@ -43,18 +43,6 @@ seen t = (t .done, record { number = t .number; card = t .card })
 unfoldable pub answers : List ℕ → ℕ → ℕ → List Seen
 answers s at zero = []
 answers s at (suc n) = seen (takenAt s at) ∷ answers s (takenAt s at .next) n
-
--- n parts in a row from place `at` on, a record each; the last may be short
-unfoldable pub partsFrom : List ℕ → ℕ → ℕ → List (List ℕ)
-partsFrom s at zero = []
-partsFrom s at (suc n) = take cardLength (drop at s) ∷ partsFrom s (at + cardLength) n
-
--- how many parts a catalogue has, a short last one counted
-unfoldable pub partCount : List ℕ → ℕ
-partCount s = (length s + (cardLength - 1)) / cardLength
-
-unfoldable pub parts : List ℕ → List (List ℕ)
-parts s = partsFrom s 0 (partCount s)
 
 -- a part that was read; a short one reads as 1
 unfoldable pub readSeen : List ℕ → Seen

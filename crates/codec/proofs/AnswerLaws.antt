@@ -1,20 +1,18 @@
--- What the reader and the writer of a card answer, from the length of what they were lent and the number of what it holds.
-use mathlib.Core.Path.{_≡_, refl, sym, ap, _∙_}
-use mathlib.Core.Bool.{Bool, true, cond}
+-- What the reader of a card answers, from the length of what it was lent and the number of what it holds.
+use mathlib.Core.Path.{_≡_, sym, ap, _∙_}
+use mathlib.Core.Bool.{Bool, cond}
 use mathlib.Core.List.{List}
 use Prim.Native.Nat.{ℕ}
 use lib.Dec.{eqb}
 use lib.ListN.{length, getD}
 use Rattle.refusal.specs.Refusal.{first}
-use Rattle.refusal.proofs.OutputLaws.{one, keeps, takes}
+use Rattle.refusal.proofs.OutputLaws.{one}
 use Rattle.refusal.proofs.RefusalLaws.{wrong-length, past-length}
 use Rattle.card.specs.declared.Card.{Card}
-use Rattle.card.specs.Checks.{checks, cardNumber}
+use Rattle.card.specs.Checks.{checks}
 use Rattle.card.specs.Zero.{zeroCard, refusedWith}
 use Rattle.card.proofs.StepLaws.{answer, settled}
-use Rattle.codec.specs.Codec.{cardLength, encode, decode, readNumber, readCard, writeNumber, written}
-
--- ---- reading a card
+use Rattle.codec.specs.Codec.{cardLength, decode, readNumber, readCard}
 
 pub number-short : (s : List ℕ) → (length s ≡ cardLength → ⊥) → 1 ≡ readNumber s
 unfolding readNumber
@@ -37,21 +35,3 @@ read-number s n z c l e f h = h ∙ ap (λ (x : Bool). first (checks x c)) e ∙
 pub read-taken : (s : List ℕ) (c : Card) → c ≡ decode s → 0 ≡ readNumber s → answer 0 c ≡ readCard s
 unfolding readCard
 read-taken s c f h = ap (answer 0) f ∙ ap (λ (k : ℕ). answer k (cond (eqb k 0) (decode s) zeroCard)) h
-
--- ---- writing a card
-
-pub write-short : (c : Card) (n : ℕ) → (n ≡ cardLength → ⊥) → 1 ≡ writeNumber c n
-unfolding writeNumber
-write-short c n h = wrong-length n cardLength (checks true c) h
-
-pub write-number : (c : Card) (n k : ℕ) → n ≡ cardLength → k ≡ cardNumber c → k ≡ writeNumber c n
-unfolding writeNumber cardNumber
-write-number c n k l h = h ∙ sym (past-length n cardLength (checks true c) l)
-
-pub kept-out : (c : Card) (out : List ℕ) (n : ℕ) → n ≡ writeNumber c (length out) → (n ≡ 0 → ⊥) → out ≡ written c out
-unfolding written
-kept-out c out n e h = keeps n (writeNumber c (length out)) (encode c) out e h
-
-pub put-out : (c : Card) (out : List ℕ) → 0 ≡ writeNumber c (length out) → encode c ≡ written c out
-unfolding written
-put-out c out e = takes 0 (writeNumber c (length out)) (encode c) out e refl

@@ -1,4 +1,5 @@
 -- The laws of the card's bytes.
 pub mod CodecLaws
 pub mod AnswerLaws
-pub mod BytesLaws
+pub mod OpenedLaws
+pub mod PartLaws

@@ -1,4 +1,4 @@
--- The card's bytes: reading and writing, a call from bytes to bytes.
+-- The card's bytes: reading and writing, and what a call on bytes starts from and ends with.
 pub mod Codec
-pub mod Bytes
+pub mod Parts
 pub mod Opened

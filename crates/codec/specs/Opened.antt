@@ -1,4 +1,4 @@
--- What a call on bytes starts from and ends with, in two private steps.
+-- What a call on bytes starts from, and what it ends with.
 use mathlib.Core.Bool.{cond, _&&_}
 use mathlib.Core.List.{List}
 use Prim.Native.Nat.{ℕ}
@@ -16,6 +16,10 @@ openedNumber room s = roomy cardLength room (cond (eqb (length s) cardLength && 
 unfoldable pub openedFor : ℕ → List ℕ → Answer
 openedFor room s = record { number = openedNumber room s; card = cond (eqb (openedNumber room s) 0) (decode s) zeroCard }
 
+-- the buffer's length first, then the answer's number
+unfoldable pub putNumber : Answer → ℕ → ℕ
+putNumber a room = roomy cardLength room (a .number)
+
 -- an accepted answer's bytes, or what the buffer held
 unfoldable pub putOut : Answer → List ℕ → List ℕ
-putOut a out = kept (a .number) (encode (a .card)) out
+putOut a out = kept (putNumber a (length out)) (encode (a .card)) out

@@ -1,14 +1,11 @@
-// The card's bytes: read, written, and a call from bytes to bytes. Every function takes any bytes and any buffer.
+// The card's bytes: read and written, and what a call on bytes starts from and ends with. Every function takes any bytes and any buffer.
 ghost use mathlib.Core.Path.{_≡_};
 ghost use lib.ListN.{length};
-ghost use Rattle.card.specs.Calls as L;
 ghost use Rattle.codec.specs.Codec as C;
-ghost use Rattle.codec.specs.Bytes as B;
+ghost use Rattle.codec.specs.Opened as O;
 use card::Answer;
-use card::Call;
 use card::Card;
 
-pub mod bytes;
 mod record;
 
 // The length of a card's record, bytes.
@@ -45,28 +42,43 @@ pub fn write(c: Card, out: &mut [u8]) -> u32
     ensures { λ r. ⌜ r ≡ C.writeNumber c (length (now (out .entry))) ⌝ }
     ensures { λ r. ⌜ now (out .exit) ≡ C.written c (now (out .entry)) ⌝ }
 {
+    let number = c.check();
+    put(Answer { number, card: c }, out)
+}
+
+// What a call on bytes starts from, for a buffer of `room` bytes: 1 where a length is wrong, the record's number where its zero byte is not 0; else
+// 0 and the card, not checked: the call checks it. Refused, the card is all zeros.
+pub fn opened(s: &[u8], room: usize) -> Answer
+    ensures { λ r. ⌜ r ≡ O.openedFor room (now (s .entry)) ⌝ }
+{
+    if room != CARD_LENGTH {
+        return card::refused(1);
+    }
+    if s.len() != CARD_LENGTH {
+        return card::refused(1);
+    }
+    let held = record::decode(s);
+    if s[11] != 0 {
+        return card::refused(held.check_with(false));
+    }
+    Answer {
+        number: 0,
+        card: held,
+    }
+}
+
+// What a call on bytes ends with: 1 where the buffer has not exactly CARD_LENGTH bytes, then the answer's number. At 0 the answer's card is
+// written as it is; refused, no byte is.
+pub fn put(a: Answer, out: &mut [u8]) -> u32
+    ensures { λ r. ⌜ r ≡ O.putNumber a (length (now (out .entry))) ⌝ }
+    ensures { λ _. ⌜ now (out .exit) ≡ O.putOut a (now (out .entry)) ⌝ }
+{
     if out.len() != CARD_LENGTH {
         return 1;
     }
-    let number = c.check();
-    if number != 0 {
-        return number;
+    if a.number != 0 {
+        return a.number;
     }
-    record::encode(c, out);
+    record::encode(a.card, out);
     0
-}
-
-// The call that k is, from a card's bytes to a buffer, as in `bytes`. For lists of calls.
-pub fn call_bytes(s: &[u8], k: Call, out: &mut [u8]) -> u32
-    ensures { λ r. ⌜ r ≡ B.bytesNumber (length (now (out .entry))) (now (s .entry)) (L.callOf k) ⌝ }
-    ensures { λ _. ⌜ now (out .exit) ≡ B.bytesOut (now (out .entry)) (now (s .entry)) (L.callOf k) ⌝ }
-{
-    match k {
-        Call::Move(d) => bytes::move_by(s, d, out),
-        Call::Frame(g) => bytes::to_frame(s, g, out),
-        Call::MeanOn => bytes::mean_on(s, out),
-        Call::MeanOff => bytes::mean_off(s, out),
-        Call::SolidOn(a, b) => bytes::solid_on(s, a, b, out),
-        Call::SolidOff => bytes::solid_off(s, out),
-    }
 }

@@ -2,9 +2,7 @@
 ghost use mathlib.Core.Path.{_≡_};
 ghost use lib.ListN.{length};
 ghost use Rattle.codec.specs.Codec as C;
-ghost use Rattle.codec.specs.Opened as O;
 use crate::CARD_LENGTH;
-use card::Answer;
 use card::Card;
 
 pub fn decode(s: &[u8]) -> Card
@@ -39,35 +37,4 @@ pub fn encode(c: Card, out: &mut [u8])
     layout::put_vector(out, 28, 4, c.velocity);
     layout::put_vector(out, 40, 8, c.position);
     layout::put_vector(out, 64, 8, c.solid);
-}
-
-// What a call on bytes starts from: 1 where a length is wrong, the record's number where its zero byte is not 0; else 0 and the card, which the
-// call checks.
-pub fn opened(s: &[u8], room: usize) -> Answer
-    ensures { λ r. ⌜ r ≡ O.openedFor room (now (s .entry)) ⌝ }
-{
-    if room != CARD_LENGTH {
-        return card::refused(1);
-    }
-    if s.len() != CARD_LENGTH {
-        return card::refused(1);
-    }
-    let c = decode(s);
-    if s[11] != 0 {
-        return card::refused(c.check_with(false));
-    }
-    Answer { number: 0, card: c }
-}
-
-// Writes an accepted answer's card.
-pub fn put(a: Answer, out: &mut [u8]) -> u32
-    requires { ⌜ length (now out) ≡ C.cardLength ⌝ }
-    ensures { λ r. ⌜ r ≡ (a .number) ⌝ }
-    ensures { λ _. ⌜ now (out .exit) ≡ O.putOut a (now (out .entry)) ⌝ }
-{
-    if a.number != 0 {
-        return a.number;
-    }
-    encode(a.card, out);
-    0
 }

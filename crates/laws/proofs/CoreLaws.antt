@@ -23,7 +23,7 @@ use Rattle.card.proofs.ValidLaws.{solid-none}
 use Rattle.card.proofs.CallLaws.{card-accepted, own-accepted, byte-is}
 use Rattle.laws.specs.Lists.{Tides, tidesOf, moveOf, gain, meanShift, inForce, bare, steady, formula}
 use Rattle.laws.specs.Core.{Core, core, later, dressed}
-use Rattle.laws.proofs.VectorLaws.{back, back-two, scaled-nothing, scaled-twice, moved-bare, reframed-bare, reframed-steady, mean-on, mean-off, solid-on, solid-off}
+use Rattle.laws.proofs.VectorLaws.{unmoved, back, back-two, scaled-nothing, scaled-twice, moved-bare, reframed-bare, reframed-steady, mean-on, mean-off, solid-on, solid-off}
 use Rattle.laws.proofs.CallLaws.{settled}
 
 -- ---- the core and the card
@@ -60,9 +60,6 @@ later-nothing b = λ i.
       velocity = b .velocity;
       position = scaled-nothing (b .position) (b .velocity) i;
     }
-  where
-    unmoved : (e : ℤ) → e +ℤ pos 0 ≡ e
-    unmoved e = by-ring (e ∷ []) (search quote depth 30) tt
 
 pub later-twice : (d e : ℤ) (b : Core) → later e (later d b) ≡ later (d +ℤ e) b
 unfolding later

@@ -1,20 +1,27 @@
 -- The theorems are not empty: a valid card, and a list of calls on it of which some are accepted and some refused.
 use mathlib.Core.Path.{_≡_, refl}
-use mathlib.Core.List.{List, [], _∷_}
+use mathlib.Core.List.{List, [], _∷_, _++_}
 use Prim.Native.Nat.{ℕ}
 use lib.IntN.{pos, negℤ}
+use lib.Ieee.{ofBits, binary64}
 use Rattle.refusal.specs.Refusal.{first}
 use Rattle.numbers.specs.Near.{nearest, near}
 use Rattle.numbers.specs.Root.{refine, rootIn, root}
+use Rattle.numbers.specs.Whole.{wholeOf}
+use Rattle.mark.specs.declared.Vec3.{Vec3}
 use Rattle.mark.specs.Mark.{vec, nowhere, squares, lengthOf, marked, plus, sized, minus, scaled}
 use Rattle.frames.specs.Frame.{knownFrame, rowOf, offset, drift, frameA, frameB, frameAt, frameShift, frameGain}
 use Rattle.tides.specs.Direction.{times, unit, legendre}
 use Rattle.tides.specs.Permanent.{s2, small, radial, north, down, across, along, permanentOf, permanent}
+use Rattle.tides.specs.declared.Body.{Body}
+use Rattle.tides.specs.declared.Body.the-variants.{Moon, Sun}
+use Rattle.tides.specs.Bodies.{wholes, finite, inReach, paired, moonOf, sunOf}
+use Rattle.tides.specs.Tide.{nearness, strength, cosine, height, upward, sideways, component, standing, degreeTwo, partOf, tideAt, tide}
 use Rattle.head.specs.State.{stateOf, withState, stateFits}
 use Rattle.head.specs.Head.{digit, shapeAt, shapeFrom, siteShape, epochFits}
 use Rattle.card.specs.declared.Card.{Card}
 use Rattle.card.specs.Checks.{isZero, tideFits, velocityFits, fromMark, positionFits, vectorFits, checks, cardNumber, Valid}
-use Rattle.card.specs.Calls.{Call, move, frame, meanOn, meanOff, moved, reframed, next, own, callNumber, settle, step}
+use Rattle.card.specs.Calls.{Call, move, frame, meanOn, meanOff, solidOn, solidOff, moved, reframed, next, own, callNumber, settle, step}
 use Rattle.card.specs.Sample.{at}
 use Rattle.field.specs.Field.{roundedBy, offsetOf, speedOf, expandedOf}
 use Rattle.field.proofs.PackLaws.{taken}
@@ -33,23 +40,41 @@ unfoldable shifting : ℕ
 unfolding unit s2 legendre small radial north down across along permanentOf permanent rowOf offset drift frameA frameB frameAt frameShift frameGain
 shifting = 0
 
+unfoldable tiding : ℕ
+unfolding ofBits wholeOf wholes finite inReach paired moonOf sunOf nearness strength cosine height upward sideways component standing degreeTwo partOf tideAt tide
+tiding = 0
+
 unfoldable computing : ℕ
-unfolding checking marking shifting moved reframed next own callNumber settle step
+unfolding checking marking shifting tiding moved reframed next own callNumber settle step
 computing = 0
 
 -- 90001M001 in ITRF2008 at 2000.0, at its mark
 abbrev pub example : Card
 example = at (pos 0)
 
--- a year on; mean on; mean on again (12); ITRF2005; mean off; 146,100 more (5); frame 9 (3)
+-- the Moon and the Sun at right angles, at their reference distances: 384,400,000 m in x and 149,597,870 km in y, as doubles
+abbrev pub moonAhead : Body
+moonAhead = Moon (record { x = ofBits binary64 0x41b6_e97a_8000_0000; y = ofBits binary64 0; z = ofBits binary64 0 })
+
+abbrev pub sunAside : Body
+sunAside = Sun (record { x = ofBits binary64 0; y = ofBits binary64 0x41a1_d55d_5c00_0000; z = ofBits binary64 0 })
+
+-- a year on; mean on; mean on again (12); ITRF2005; mean off; solid on
+abbrev pub untilTide : List Call
+untilTide = move (pos 1461) ∷ meanOn ∷ meanOn ∷ frame 1 ∷ meanOff ∷ solidOn moonAhead sunAside ∷ []
+
+-- ITRF2000 under the tide; a move under it (13); solid off; 146,100 more (5); frame 9 (3)
+abbrev pub afterTide : List Call
+afterTide = frame 2 ∷ move (pos 1) ∷ solidOff ∷ move (pos 146100) ∷ frame 9 ∷ []
+
 abbrev pub calls : List Call
-calls = move (pos 1461) ∷ meanOn ∷ meanOn ∷ frame 1 ∷ meanOff ∷ move (pos 146100) ∷ frame 9 ∷ []
+calls = untilTide ++ afterTide
 
 pub example-valid : Valid example
 unfolding Valid cardNumber computing
 example-valid = tt
 
-pub example-numbers : numbers example calls ≡ 0 ∷ 0 ∷ 12 ∷ 0 ∷ 0 ∷ 5 ∷ 3 ∷ []
+pub example-numbers : numbers example calls ≡ 0 ∷ 0 ∷ 12 ∷ 0 ∷ 0 ∷ 0 ∷ 0 ∷ 13 ∷ 0 ∷ 5 ∷ 3 ∷ []
 unfolding numbers computing
 example-numbers = refl
 
@@ -57,19 +82,22 @@ pub example-net : net example calls ≡ pos 1461
 unfolding net gain computing
 example-net = refl
 
--- a year of 20,000 micrometres is 29,220,000 grains; ITRF2005 adds 5,837,351 + 300 x 1,461 in x
+-- the example a year on in frame g: its velocity, its position, byte 10 and the stored tide
+abbrev laterIn : ℕ → ℕ → Vec3 → Vec3 → Vec3 → Card
+laterIn g byte v p t =
+    record { site = example .site; frame = g; tide = byte; epoch = pos 1461; mark = example .mark; velocity = v; position = p; solid = t }
+
+-- a year of 20,000 micrometres is 29,220,000 grains; ITRF2005 adds 5,837,351 + 300 x 1,461 in x; the tide is 245,158,509 in x
+pub example-tided :
+    run example untilTide
+    ≡ laterIn 1 2 (vec (pos 20300) (pos 0) (pos 0)) (vec (pos 9318458437654160) (negℤ (pos 1314900)) (negℤ (pos 6866700))) (vec (pos 245158509) (pos 0) (pos 0))
+unfolding run computing
+example-tided = refl
+
+-- ITRF2000 adds (9,710,834, -2,483,700, -15,340,500) + (610, 100, -1,800) x 1,461
 pub example-run :
     run example calls
-    ≡ record {
-      site = example .site;
-      frame = 1;
-      tide = 0;
-      epoch = pos 1461;
-      mark = example .mark;
-      velocity = vec (pos 20300) (pos 0) (pos 0);
-      position = vec (pos 9318458192495651) (negℤ (pos 1314900)) (negℤ (pos 6866700));
-      solid = nowhere;
-    }
+    ≡ laterIn 2 0 (vec (pos 20610) (pos 100) (negℤ (pos 1800))) (vec (pos 9318458196822044) (negℤ (pos 2337600)) (negℤ (pos 17970300))) nowhere
 unfolding run computing
 example-run = refl
 

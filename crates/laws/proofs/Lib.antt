@@ -13,9 +13,12 @@ pub mod CoreLaws
 pub mod StaysValid
 pub mod EitherOrder
 pub mod ListTheorem
+pub mod IdleCalls
 pub mod TwoCardLaws
 pub mod FieldBound
 pub mod FieldEdition
+pub mod ByteLists
+pub mod ByteEdition
 pub mod Example
 pub mod StarredTable
 pub mod Outcomes

@@ -3,15 +3,20 @@ use mathlib.Core.Path.{_≡_, sym, _∙_}
 use mathlib.Core.List.{List}
 use Prim.Native.Nat.{ℕ}
 use Rattle.laws.specs.OneOutcome.{OneOutcome, OneShown}
+use Rattle.numbers.specs.Whole.{wholeOf}
+use Rattle.numbers.proofs.WholeLaws.{means-shown}
 use Rattle.numbers.proofs as numbers
 use Rattle.octets.proofs as octets
+use Rattle.text.proofs as text
 use Rattle.mark.proofs as mark
 use Rattle.layout.proofs as layout
 use Rattle.frames.proofs as frames
 use Rattle.tides.proofs as tides
+use Rattle.series.proofs as series
 use Rattle.head.proofs as head
 use Rattle.card.proofs as card
 use Rattle.codec.proofs as codec
+use Rattle.records.proofs as records
 use Rattle.field.proofs as field
 use Rattle.catalogue.proofs as catalogue
 use Rattle.listing.proofs as listing
@@ -33,7 +38,7 @@ pub root-one : OneOutcome 0 numbers.root.Kinds.ps numbers.root.Kinds.r numbers.r
 root-one κs a z z′ w w′ p q i = (same p q i, w)
 
 pub whole-one : OneOutcome 0 numbers.whole.Kinds.ps numbers.whole.Kinds.r numbers.whole.Reads.Learnt
-whole-one κs a z z′ w w′ p q i = (same p q i, w)
+whole-one κs a z z′ w w′ p q i = (same (means-shown z (wholeOf (a .0)) p) (means-shown z′ (wholeOf (a .0)) q) i, w)
 
 pub unsigned-at-one : OneOutcome 1 octets.unsigned_at.Kinds.ps octets.unsigned_at.Kinds.r octets.unsigned_at.Reads.Learnt
 unsigned-at-one κs a z z′ w w′ p q i = (same p q i, w)
@@ -68,6 +73,15 @@ frame-terms-one κs a z z′ w w′ p q i = (same p q i, w)
 pub solid-tide-one : OneOutcome 0 tides.solid_tide.Kinds.ps tides.solid_tide.Kinds.r tides.solid_tide.Reads.Learnt
 solid-tide-one κs a z z′ w w′ p q i = (same p q i, w)
 
+pub bodies-number-one : OneOutcome 0 tides.bodies_number.Kinds.ps tides.bodies_number.Kinds.r tides.bodies_number.Reads.Learnt
+bodies-number-one κs a z z′ w w′ p q i = (same p q i, w)
+
+pub direction-of-one : OneOutcome 0 tides.direction_of.Kinds.ps tides.direction_of.Kinds.r tides.direction_of.Reads.Learnt
+direction-of-one κs a z z′ w w′ p q i = (same p q i, w)
+
+pub pair-at-one : OneOutcome 0 tides.pair_at.Kinds.ps tides.pair_at.Kinds.r tides.pair_at.Reads.Learnt
+pair-at-one κs a z z′ w w′ p q i = (same p q i, w)
+
 pub read-one : OneOutcome 1 codec.read.Kinds.ps codec.read.Kinds.r codec.read.Reads.Learnt
 read-one κs a z z′ w w′ p q i = (same p q i, w)
 
@@ -79,6 +93,9 @@ vector-at-one κs a z z′ w w′ p q i = (same p q i, w)
 
 pub codec-check-one : OneOutcome 1 codec.check.Kinds.ps codec.check.Kinds.r codec.check.Reads.Learnt
 codec-check-one κs a z z′ w w′ p q i = (same p q i, w)
+
+pub opened-one : OneOutcome 1 codec.opened.Kinds.ps codec.opened.Kinds.r codec.opened.Reads.Learnt
+opened-one κs a z z′ w w′ p q i = (same p q i, w)
 
 pub expand-one : OneOutcome 1 field.expand.Kinds.ps field.expand.Kinds.r field.expand.Reads.Learnt
 expand-one κs a z z′ w w′ p q i = (same p q i, w)
@@ -163,37 +180,58 @@ put-signed-one κs a z z′ w w′ p q i = (z, (same p q i, w .1))
 pub put-bytes-one : OneOutcome 2 octets.put_bytes.Kinds.ps octets.put_bytes.Kinds.r octets.put_bytes.Reads.Learnt
 put-bytes-one κs a z z′ w w′ p q i = (z, (same p q i, w .1))
 
+pub put-byte-one : OneOutcome 1 octets.put_byte.Kinds.ps octets.put_byte.Kinds.r octets.put_byte.Reads.Learnt
+put-byte-one κs a z z′ w w′ p q i = (z, (same p q i, w .1))
+
+pub text-put-natural-one : OneOutcome 1 text.put_natural.Kinds.ps text.put_natural.Kinds.r text.put_natural.Reads.Learnt
+text-put-natural-one κs a z z′ w w′ p q i = (same (p .0) (q .0) i, (same (p .1) (q .1) i, w .1))
+
+pub text-put-integer-one : OneOutcome 1 text.put_integer.Kinds.ps text.put_integer.Kinds.r text.put_integer.Reads.Learnt
+text-put-integer-one κs a z z′ w w′ p q i = (same (p .0) (q .0) i, (same (p .1) (q .1) i, w .1))
+
+pub text-put-next-one : OneOutcome 1 text.put_next.Kinds.ps text.put_next.Kinds.r text.put_next.Reads.Learnt
+text-put-next-one κs a z z′ w w′ p q i = (same (p .0) (q .0) i, (same (p .1) (q .1) i, w .1))
+
+pub text-put-bytes-one : OneOutcome 2 text.put_bytes.Kinds.ps text.put_bytes.Kinds.r text.put_bytes.Reads.Learnt
+text-put-bytes-one κs a z z′ w w′ p q i = (same (p .0) (q .0) i, (same (p .1) (q .1) i, w .1))
+
+pub text-put-hex-one : OneOutcome 2 text.put_hex.Kinds.ps text.put_hex.Kinds.r text.put_hex.Reads.Learnt
+text-put-hex-one κs a z z′ w w′ p q i = (same (p .0) (q .0) i, (same (p .1) (q .1) i, w .1))
+
 pub put-vector-one : OneOutcome 1 layout.put_vector.Kinds.ps layout.put_vector.Kinds.r layout.put_vector.Reads.Learnt
 put-vector-one κs a z z′ w w′ p q i = (z, (same p q i, w .1))
 
 pub put-head-one : OneOutcome 1 layout.put_head.Kinds.ps layout.put_head.Kinds.r layout.put_head.Reads.Learnt
 put-head-one κs a z z′ w w′ p q i = (z, (same p q i, w .1))
 
-pub series-one : OneOutcome 2 tides.series.Kinds.ps tides.series.Kinds.r tides.series.Reads.Learnt
+pub series-one : OneOutcome 2 series.series.Kinds.ps series.series.Kinds.r series.series.Reads.Learnt
 series-one κs a z z′ w w′ p q i = (same (p .0) (q .0) i, (w .0, (w .1 .0, (same (p .1) (q .1) i, w .1 .1 .1))))
 
 pub write-one : OneOutcome 1 codec.write.Kinds.ps codec.write.Kinds.r codec.write.Reads.Learnt
 write-one κs a z z′ w w′ p q i = (same (p .0) (q .0) i, (w .0, (same (p .1) (q .1) i, w .1 .1)))
 
-pub bytes-move-by-one : OneOutcome 2 codec.bytes.move_by.Kinds.ps codec.bytes.move_by.Kinds.r codec.bytes.move_by.Reads.Learnt
+pub put-one : OneOutcome 1 codec.put.Kinds.ps codec.put.Kinds.r codec.put.Reads.Learnt
+put-one κs a z z′ w w′ p q i = (same (p .0) (q .0) i, (w .0, (same (p .1) (q .1) i, w .1 .1)))
+
+pub bytes-move-by-one : OneOutcome 2 records.move_by.Kinds.ps records.move_by.Kinds.r records.move_by.Reads.Learnt
 bytes-move-by-one κs a z z′ w w′ p q i = (same (p .0) (q .0) i, (w .0, (w .1 .0, (same (p .1) (q .1) i, w .1 .1 .1))))
 
-pub bytes-to-frame-one : OneOutcome 2 codec.bytes.to_frame.Kinds.ps codec.bytes.to_frame.Kinds.r codec.bytes.to_frame.Reads.Learnt
+pub bytes-to-frame-one : OneOutcome 2 records.to_frame.Kinds.ps records.to_frame.Kinds.r records.to_frame.Reads.Learnt
 bytes-to-frame-one κs a z z′ w w′ p q i = (same (p .0) (q .0) i, (w .0, (w .1 .0, (same (p .1) (q .1) i, w .1 .1 .1))))
 
-pub bytes-mean-on-one : OneOutcome 2 codec.bytes.mean_on.Kinds.ps codec.bytes.mean_on.Kinds.r codec.bytes.mean_on.Reads.Learnt
+pub bytes-mean-on-one : OneOutcome 2 records.mean_on.Kinds.ps records.mean_on.Kinds.r records.mean_on.Reads.Learnt
 bytes-mean-on-one κs a z z′ w w′ p q i = (same (p .0) (q .0) i, (w .0, (same (p .1) (q .1) i, w .1 .1)))
 
-pub bytes-mean-off-one : OneOutcome 2 codec.bytes.mean_off.Kinds.ps codec.bytes.mean_off.Kinds.r codec.bytes.mean_off.Reads.Learnt
+pub bytes-mean-off-one : OneOutcome 2 records.mean_off.Kinds.ps records.mean_off.Kinds.r records.mean_off.Reads.Learnt
 bytes-mean-off-one κs a z z′ w w′ p q i = (same (p .0) (q .0) i, (w .0, (same (p .1) (q .1) i, w .1 .1)))
 
-pub bytes-solid-on-one : OneOutcome 2 codec.bytes.solid_on.Kinds.ps codec.bytes.solid_on.Kinds.r codec.bytes.solid_on.Reads.Learnt
+pub bytes-solid-on-one : OneOutcome 2 records.solid_on.Kinds.ps records.solid_on.Kinds.r records.solid_on.Reads.Learnt
 bytes-solid-on-one κs a z z′ w w′ p q i = (same (p .0) (q .0) i, (w .0, (w .1 .0, (w .1 .1 .0, (same (p .1) (q .1) i, w .1 .1 .1 .1)))))
 
-pub bytes-solid-off-one : OneOutcome 2 codec.bytes.solid_off.Kinds.ps codec.bytes.solid_off.Kinds.r codec.bytes.solid_off.Reads.Learnt
+pub bytes-solid-off-one : OneOutcome 2 records.solid_off.Kinds.ps records.solid_off.Kinds.r records.solid_off.Reads.Learnt
 bytes-solid-off-one κs a z z′ w w′ p q i = (same (p .0) (q .0) i, (w .0, (same (p .1) (q .1) i, w .1 .1)))
 
-pub call-bytes-one : OneOutcome 2 codec.call_bytes.Kinds.ps codec.call_bytes.Kinds.r codec.call_bytes.Reads.Learnt
+pub call-bytes-one : OneOutcome 2 records.call_bytes.Kinds.ps records.call_bytes.Kinds.r records.call_bytes.Reads.Learnt
 call-bytes-one κs a z z′ w w′ p q i = (same (p .0) (q .0) i, (w .0, (w .1 .0, (same (p .1) (q .1) i, w .1 .1 .1))))
 
 pub export-one : OneOutcome 1 field.export.Kinds.ps field.export.Kinds.r field.export.Reads.Learnt

@@ -130,4 +130,4 @@ pub permanent-within : (m : Vec3) (t : T (marked m)) → Close bound (permanent 
 unfolding permanent whole-permanent
 permanent-within m t =
     let L = wholly (lengthOf m) (mark-positive m t) in
-    permanent-chain whole-permanent (units (lengthOf m) m) (direction m L) (whole-stands m (mark-positive m t)) 100 (lit≤ tt) (lit≤ tt)
+    permanent-chain whole-permanent (units (lengthOf m) m) (direction m L) (whole-stands m (mark-positive m t)) bound (lit≤ tt) (lit≤ tt)

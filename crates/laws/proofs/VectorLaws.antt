@@ -26,7 +26,18 @@ back v w = vec≡ (go (v .x) (w .x)) (go (v .y) (w .y)) (go (v .z) (w .z))
 pub back-two : (p t f : Vec3) → plus (plus (minus (minus p t) f) f) t ≡ p
 back-two p t f = ap (λ (q : Vec3). plus q t) (back (minus p t) f) ∙ back p t
 
+-- what is gained and taken away
+pub gained-nothing : (p v : Vec3) → plus p (minus v v) ≡ p
+unfolding plus minus
+gained-nothing p v = vec≡ (go (p .x) (v .x)) (go (p .y) (v .y)) (go (p .z) (v .z))
+  where
+    go : (a b : ℤ) → a +ℤ (b -ℤ b) ≡ a
+    go a b = by-ring (a ∷ b ∷ []) (search quote depth 30) tt
+
 -- ---- moving
+
+pub unmoved : (e : ℤ) → e +ℤ pos 0 ≡ e
+unmoved e = by-ring (e ∷ []) (search quote depth 30) tt
 
 pub scaled-nothing : (p v : Vec3) → plus p (scaled (pos 0) v) ≡ p
 unfolding plus scaled

@@ -1,6 +1,7 @@
--- What the theorems speak of: the conventional formulas, lists of calls, and two cards side by side.
+-- What the theorems speak of: the conventional formulas, lists of calls on cards and on bytes, and two cards side by side.
 pub mod Formulas
 pub mod Lists
+pub mod ByteLists
 pub mod Core
 pub mod TwoCards
 pub mod Starred

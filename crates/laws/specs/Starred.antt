@@ -9,15 +9,36 @@ use Rattle.mark.specs.Mark.{vec, lengthOf, markNumber}
 use Rattle.frames.specs.Frame.{frameA, frameB, frameShift}
 use Rattle.tides.specs.Direction.{units}
 use Rattle.tides.specs.Permanent.{permanent}
-use Rattle.tides.specs.Bodies.{moon}
-use Rattle.tides.specs.Tide.{partOf}
-use Rattle.card.specs.Calls.{move, moved, step}
+use Rattle.tides.specs.declared.BodyVector.{BodyVector}
+use Rattle.tides.specs.Bodies.{moon, wholes}
+use Rattle.tides.specs.Tide.{part}
+use Rattle.card.specs.declared.Card.{Card}
+use Rattle.card.specs.Calls.{move, step}
 use Rattle.card.specs.Sample.{at}
 use Rattle.field.specs.Field.{roundedBy}
 
 -- the mark of case 2, metres
 abbrev pub equator : Vec3
 equator = vec (pos 6378137) (pos 0) (pos 0)
+
+-- the card of case 7 a year on: 29,220,000 grains farther in x, and all else as it was
+abbrev pub yearOn : Card
+yearOn =
+    let c = at (pos 0) in
+    record {
+      site = c .site;
+      frame = c .frame;
+      tide = c .tide;
+      epoch = pos 1461;
+      mark = c .mark;
+      velocity = c .velocity;
+      position = vec (c .position .x +ℤ pos 29220000) (pos 0) (pos 0);
+      solid = c .solid;
+    }
+
+-- the doubles 384400000, 0 and 0, metres: the Moon of case 12
+abbrev pub ahead : BodyVector
+ahead = record { x = ofBits binary64 0x41b6_e97a_8000_0000; y = ofBits binary64 0; z = ofBits binary64 0 }
 
 pub record Starred : Type 0 where
   -- near(1/2) = 1, near(-1/2) = -1, near(-3/2) = -2
@@ -32,8 +53,8 @@ pub record Starred : Type 0 where
   pub case-5 : (frameA 2 equator ≡ vec (pos 9710834) (negℤ (pos 2483700)) (negℤ (pos 15340500))) × (frameB 2 equator ≡ vec (pos 610) (pos 100) (negℤ (pos 1800)))
   -- ITRF2005 shift in x at epoch 7,305: 8,028,851
   pub case-6 : frameShift 0 1 (pos 7305) equator .x ≡ pos 8028851
-  -- velocity 20,000 moved 1,461: 29,220,000 grains
-  pub case-7 : moved (pos 1461) (at (pos 0)) .position ≡ vec (at (pos 0) .position .x +ℤ pos 29220000) (pos 0) (pos 0)
+  -- velocity 20,000 moved 1,461: accepted, 29,220,000 grains
+  pub case-7 : step (at (pos 0)) (move (pos 1461)) ≡ record { number = 0; card = yearOn }
   -- epoch 146,100 moved 1: refusal 5
   pub case-8 : step (at (pos 146100)) (move (pos 1)) .number ≡ 5
   -- marks (6300000, 0, 0) and (6400000, 1, 0) accepted; (6299999, 0, 0) and (6400001, 0, 0) refused, 6
@@ -42,5 +63,5 @@ pub record Starred : Type 0 where
   pub case-10 : (wholeOf (ofBits binary64 0x4004_0000_0000_0000) ≡ some (pos 3)) × (wholeOf (ofBits binary64 0xbfe0_0000_0000_0000) ≡ some (negℤ (pos 1)))
   -- field offsets of 73,050, 73,049 and -73,050 grains: 1, 0, -1
   pub case-11 : roundedBy 146100 (vec (pos 73050) (pos 73049) (negℤ (pos 73050))) ≡ vec (pos 1) (pos 0) (negℤ (pos 1))
-  -- Moon (384400000, 0, 0), mark of 2: its part is (near(6,078 K0/10,000), 0, 0)
-  pub case-12 : partOf (moon .r0) (moon .k0) (units (lengthOf equator) equator) (vec (pos 384400000) (pos 0) (pos 0)) 384400000 ≡ vec (near (pos 6078 *ℤ pos (moon .k0)) 10000) (pos 0) (pos 0)
+  -- Moon (384400000, 0, 0), as doubles, mark of 2: its part is (near(6,078 K0/10,000), 0, 0)
+  pub case-12 : (wholes ahead ≡ vec (pos 384400000) (pos 0) (pos 0)) × (part moon (units (lengthOf equator) equator) ahead ≡ vec (near (pos 6078 *ℤ pos (moon .k0)) 10000) (pos 0) (pos 0))

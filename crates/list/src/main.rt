@@ -2,7 +2,9 @@
 ghost use mathlib.Core.Path.{_≡_};
 ghost use Prim.Native.Nat.{_+_, _≤_, min};
 ghost use lib.ListN.{length};
+ghost use Rattle.octets.specs.Octets as O;
 ghost use Rattle.codec.specs.Codec as C;
+ghost use Rattle.listing.specs.Lines as N;
 ghost use Rattle.list.specs.Batch as B;
 use codec::CARD_LENGTH;
 use libc::STDIN_FILENO;
@@ -24,7 +26,7 @@ fn main() {
     }
 }
 
-// Reads up to PARTS parts and writes their lines; false where nothing was left or nothing more can be written.
+// Reads up to PARTS parts and writes their listing; false where nothing was left or nothing more can be written.
 fn list_some() -> bool {
     let mut bytes = [0u8; INPUT];
     let mut text = [0u8; OUTPUT];
@@ -36,10 +38,12 @@ fn list_some() -> bool {
     io::write_all(STDOUT_FILENO, &text[..filled])
 }
 
-// The lines of up to PARTS parts. Answers how many bytes they take.
+// The listing of up to PARTS parts, from the text's first byte on. Answers how many bytes it has.
 fn fill(parts: &[u8], text: &mut [u8]) -> usize
     requires { ⌜ length (now parts) ≤ B.inputMost ⌝ }
     requires { ⌜ B.outputMost ≤ length (now text) ⌝ }
+    ensures { λ r. ⌜ r ≡ length (N.listing (now (parts .entry))) ⌝ }
+    ensures { λ _. ⌜ now (text .exit) ≡ O.splice (now (text .entry)) 0 (N.listing (now (parts .entry))) ⌝ }
     ensures { λ r. ⌜ r ≤ B.outputMost ⌝ }
 {
     let mut filled = 0usize;

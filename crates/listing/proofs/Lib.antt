@@ -1,2 +1,3 @@
 -- The laws of the listing line.
 pub mod LineLaws
+pub mod LinesLaws

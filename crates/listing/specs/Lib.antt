@@ -1,2 +1,3 @@
 -- The listing line.
 pub mod Line
+pub mod Lines

@@ -5,8 +5,6 @@ ghost use Rattle.octets.specs.Octets as O;
 ghost use Rattle.listing.specs.Line as T;
 use card::Card;
 
-mod text;
-
 // The most bytes that a line has.
 pub const LINE_MOST: usize = 120;
 
@@ -28,10 +26,9 @@ fn put_refused(out: &mut [u8], number: u32) -> usize
     ensures { λ r. ⌜ r ≡ length (T.refusedLine number) ⌝ }
     ensures { λ _. ⌜ now (out .exit) ≡ O.splice (now (out .entry)) 0 (T.refusedLine number) ⌝ }
 {
-    octets::put_bytes(out, 0, b"refused");
-    let end = text::put_natural(out, 7, number as u64);
-    text::put_byte(out, end, 10);
-    end + 1
+    let word = text::put_bytes(out, 0, b"refused");
+    let end = text::put_next(out, word, number as i64);
+    text::put_bytes(out, end, b"\n")
 }
 
 // Site, frame, epoch, position, a line feed.
@@ -41,12 +38,11 @@ fn put_card(out: &mut [u8], c: Card) -> usize
     ensures { λ _. ⌜ now (out .exit) ≡ O.splice (now (out .entry)) 0 (T.cardLine c) ⌝ }
 {
     let site = c.site;
-    octets::put_bytes(out, 0, &site);
-    let f = text::put_natural(out, 9, c.frame as u64);
-    let e = text::put_integer(out, f, c.epoch);
-    let x = text::put_integer(out, e, c.position.x);
-    let y = text::put_integer(out, x, c.position.y);
-    let z = text::put_integer(out, y, c.position.z);
-    text::put_byte(out, z, 10);
-    z + 1
+    let s = text::put_bytes(out, 0, &site);
+    let f = text::put_next(out, s, c.frame as i64);
+    let e = text::put_next(out, f, c.epoch);
+    let x = text::put_next(out, e, c.position.x);
+    let y = text::put_next(out, x, c.position.y);
+    let z = text::put_next(out, y, c.position.z);
+    text::put_bytes(out, z, b"\n")
 }

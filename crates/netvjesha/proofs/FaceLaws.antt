@@ -1,16 +1,15 @@
--- What the face answers, from the output's length, the record that was read and the call's answer. An accepted call's card is always written.
+-- What the face answers, from the output's length, the record that was read and the call's answer.
 use mathlib.Core.Path.{_≡_, refl, sym, ap, _∙_}
 use mathlib.Core.Bool.{Bool, true, false, not, cond}
 use mathlib.Core.List.{List, [], _∷_}
-use Prim.Native.Nat.{ℕ, zero, suc, _≤_, _<_}
-use native.Mathlib.Omega.{arith}
+use Prim.Native.Nat.{ℕ, _≤_, _<_}
 use borrow.Author.Tests.{eq-eqb, ne-eqb, le-leb, lt-leb}
 use lib.Dec.{eqb, leb}
 use lib.ListN.{length}
 use Rattle.refusal.specs.Refusal.{first}
 use Rattle.refusal.specs.Outputs.{before, kept}
 use Rattle.refusal.proofs.RefusalLaws.{onward}
-use Rattle.refusal.proofs.OutputLaws.{one, too-short, long-enough, refused-before, passed-before, keeps, takes}
+use Rattle.refusal.proofs.OutputLaws.{one, too-short, long-enough, refused-before, passed-before, keeps}
 use Rattle.tides.specs.declared.BodyVector.{BodyVector}
 use Rattle.tides.specs.declared.Body.the-variants.{Moon, Sun}
 use Rattle.tides.specs.Bodies.{paired}
@@ -21,12 +20,11 @@ use Rattle.card.specs.Checks.{checks, cardNumber}
 use Rattle.card.specs.Zero.{zeroCard}
 use Rattle.card.specs.Calls.{solidOn, next, own, callNumber}
 use Rattle.card.proofs.CheckLaws.{positive-checks}
-use Rattle.codec.specs.Codec.{encode, decode, readNumber, readCard, writeNumber, written, cardLength}
-use Rattle.codec.proofs.CodecLaws.{write-accepts}
-use Rattle.codec.proofs.AnswerLaws.{put-out}
+use Rattle.codec.specs.Codec.{decode, readNumber, readCard}
+use Rattle.codec.specs.Opened.{putNumber, putOut}
+use Rattle.codec.proofs.OpenedLaws.{put-settled}
 use Rattle.field.specs.Field.{fieldOf, fieldNumber, openedOf, expandedOf, expandCard, exportNumber, exported, fieldLength}
-use Rattle.field.proofs.FieldLaws.{number-expanded}
-use Rattle.netvjesha.specs.Face.{bodyOf, solidCall, settledNumber, settledOut, exportedNumber, exportedOut, expandedNumber, expandedOut}
+use Rattle.netvjesha.specs.Face.{bodyOf, solidCall, exportedNumber, exportedOut, expandedNumber, expandedOut}
 use Rattle.netvjesha.specs.Steps.{labelled}
 
 -- ---- what a read gives
@@ -42,42 +40,9 @@ taken-read s h = rw h
 pub card-read : (s : List ℕ) (a : Answer) → a ≡ readCard s → a .number ≡ 0 → a .card ≡ decode s
 card-read s a e h = ap (λ (x : Answer). x .card) e ∙ taken-read s (sym (number-read s a e) ∙ h)
 
--- ---- an answer settled
-
 -- refused with n, the output is kept
 pub unchanged : {A : Type 0} (n m : ℕ) (new old : List A) → n ≡ m → (n ≡ 0 → ⊥) → (n ≡ m) × (old ≡ kept m new old)
 unchanged n m new old e h = (e, keeps n m new old e h)
-
-pub settle-refused : (a : Answer) (out : List ℕ) → (a .number ≡ 0 → ⊥) → (a .number ≡ settledNumber a (length out)) × (out ≡ settledOut a out)
-unfolding settledNumber settledOut
-settle-refused a out h = (refused-before (a .number) (writeNumber (a .card) (length out)) h, keeps (a .number) (a .number) (written (a .card) out) out refl h)
-
-pub settle-written : (a : Answer) (out : List ℕ) (n : ℕ) (e : List ℕ) → a .number ≡ 0 → n ≡ writeNumber (a .card) (length out) → e ≡ written (a .card) out
-    → (n ≡ settledNumber a (length out)) × (e ≡ settledOut a out)
-unfolding settledNumber settledOut
-settle-written a out n e h p q = (
-  p ∙ passed-before (a .number) (writeNumber (a .card) (length out)) h,
-  q ∙ takes (a .number) (a .number) (written (a .card) out) out refl h,
-)
-
--- ---- an answer whose card is valid where its number is 0
-
-abbrev answer : ℕ → Card → Card → Answer
-answer n new old = record { number = n; card = cond (eqb n 0) new old }
-
-settles : (n : ℕ) (new old : Card) (out : List ℕ) → length out ≡ cardLength → (n ≡ 0 → cardNumber new ≡ 0)
-    → (settledNumber (answer n new old) (length out) ≡ n) × (settledOut (answer n new old) out ≡ kept n (encode new) out)
-unfolding settledNumber settledOut before
-settles zero new old out l h =
-    let w = write-accepts new (length out) l (h refl) in
-    (w, sym (put-out new out (sym w)))
-settles (suc n) new old out l h = (
-  sym (refused-before (suc n) (writeNumber (cond (eqb (suc n) 0) new old) (length out)) (some n)),
-  sym (keeps (suc n) (suc n) (written (cond (eqb (suc n) 0) new old) out) out refl (some n)) ∙ keeps (suc n) (suc n) (encode new) out refl (some n),
-)
-  where
-    some : (m : ℕ) → suc m ≡ 0 → ⊥
-    some m e = omega arith
 
 -- ---- labels
 
@@ -159,24 +124,10 @@ module _ (s out : List ℕ) where
         q ∙ ap (λ (c : Card). exported c out) d ∙ ap (λ (m : ℕ). kept m (fieldOf (decode s)) out) i,
       )
 
-  pub expand-short : (length out ≡ cardLength → ⊥) → (1 ≡ expandedNumber (length out) s) × (out ≡ expandedOut out s)
-  unfolding expandedNumber expandedOut
-  expand-short h = unchanged 1 _ _ out (too-short cardLength (length out) (fieldNumber s) h) one
-
-  expand-is : length out ≡ cardLength → fieldNumber s ≡ expandedNumber (length out) s
-  unfolding expandedNumber
-  expand-is l = long-enough cardLength (length out) (fieldNumber s) l
-
-  expand-settles : length out ≡ cardLength
-      → (settledNumber (expandCard s) (length out) ≡ fieldNumber s) × (settledOut (expandCard s) out ≡ kept (fieldNumber s) (encode (expandedOf (openedOf s))) out)
-  unfolding expandCard
-  expand-settles l = settles (fieldNumber s) (expandedOf (openedOf s)) zeroCard out l (number-expanded s)
-
-  pub expand-called : (b : Answer) (n : ℕ) (e : List ℕ) → length out ≡ cardLength → b ≡ expandCard s → n ≡ settledNumber b (length out) → e ≡ settledOut b out
+  pub expand-called : (b : Answer) (n : ℕ) (e : List ℕ) → b ≡ expandCard s → (n ≡ putNumber b (length out)) × (e ≡ putOut b out)
       → (n ≡ expandedNumber (length out) s) × (e ≡ expandedOut out s)
-  unfolding expandedOut
-  expand-called b n e l f p q =
-      let w = expand-settles l in (
-        p ∙ ap (λ (x : Answer). settledNumber x (length out)) f ∙ w .0 ∙ expand-is l,
-        q ∙ ap (λ (x : Answer). settledOut x out) f ∙ w .1 ∙ ap (λ (m : ℕ). kept m (encode (expandedOf (openedOf s))) out) (expand-is l),
-      )
+  unfolding expandCard putNumber expandedNumber expandedOut
+  expand-called b n e f h = (
+    h .0 ∙ ap (λ (x : Answer). putNumber x (length out)) f,
+    h .1 ∙ ap (λ (x : Answer). putOut x out) f ∙ put-settled (fieldNumber s) (expandedOf (openedOf s)) zeroCard out,
+  )

@@ -12,7 +12,7 @@ use Rattle.refusal.proofs.FirstBadLaws.{bad-below}
 use Rattle.mark.specs.declared.Vec3.{Vec3}
 use Rattle.mark.specs.Mark.{marked}
 use Rattle.tides.specs.Tide.{bodyChecks, bodiesNumber}
-use Rattle.tides.specs.Series.{answer, rowsOf, moonAt, sunAt, rowsFit, rowNumber, scan, seriesAnswer}
+use Rattle.series.specs.Series.{answer, rowsOf, moonAt, sunAt, rowsFit, rowNumber, scan, seriesAnswer}
 use Rattle.card.specs.Checks.{checks}
 use Rattle.codec.specs.Codec.{cardLength, readNumber}
 use Rattle.catalogue.specs.Whole.{numberAt, checked, checkAnswer}

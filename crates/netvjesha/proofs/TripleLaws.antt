@@ -16,7 +16,7 @@ use Rattle.mark.specs.Mark.{vec, marked, markNumber}
 use Rattle.mark.proofs.MarkLaws.{mark-accepted}
 use Rattle.tides.specs.declared.Shift.{Shift}
 use Rattle.tides.specs.Permanent.{permanent, permanentAnswer}
-use Rattle.tides.specs.Series.{three}
+use Rattle.series.specs.Series.{three}
 use Rattle.card.specs.declared.Answer.{Answer}
 use Rattle.codec.specs.Codec.{decode, readNumber, readCard}
 use Rattle.field.specs.declared.Metres.{Metres}

@@ -10,15 +10,14 @@ use lib.Ieee.{Float}
 use Rattle.refusal.specs.Outputs.{before, roomy, kept}
 use Rattle.mark.specs.declared.Vec3.{Vec3}
 use Rattle.mark.specs.Mark.{markNumber}
-use Rattle.tides.specs.declared.Rows.{Rows}
+use Rattle.series.specs.declared.Rows.{Rows}
 use Rattle.tides.specs.declared.BodyVector.{BodyVector}
 use Rattle.tides.specs.declared.Body.{Body}
 use Rattle.tides.specs.declared.Body.the-variants.{Moon, Sun}
 use Rattle.tides.specs.Permanent.{permanent}
-use Rattle.tides.specs.Series.{three}
-use Rattle.card.specs.declared.Answer.{Answer}
+use Rattle.series.specs.Series.{three}
 use Rattle.card.specs.Calls.{Call, solidOn}
-use Rattle.codec.specs.Codec.{cardLength, encode, decode, readNumber, writeNumber, written}
+use Rattle.codec.specs.Codec.{cardLength, encode, decode, readNumber}
 use Rattle.field.specs.declared.Metres.{Metres}
 use Rattle.field.specs.Field.{fieldLength, fieldOf, exportNumber, fieldNumber, openedOf, expandedOf}
 use Rattle.field.specs.MetresOut.{metresOf}
@@ -36,14 +35,6 @@ bodyOf label v = cond (eqb label 1) (Sun v) (Moon v)
 -- a label that is neither makes no pair, and two Moons are none: 17 after 12
 unfoldable pub solidCall : ℕ → BodyVector → ℕ → BodyVector → Call
 solidCall k v l w = cond (leb k 1) (cond (leb l 1) (solidOn (bodyOf k v) (bodyOf l w)) (solidOn (Moon v) (Moon v))) (solidOn (Moon v) (Moon v))
-
--- ---- an answer's card is written where its number is 0
-
-unfoldable pub settledNumber : Answer → ℕ → ℕ
-settledNumber a room = before (a .number) (writeNumber (a .card) room)
-
-unfoldable pub settledOut : Answer → List ℕ → List ℕ
-settledOut a out = kept (a .number) (written (a .card) out) out
 
 -- ---- the field edition
 

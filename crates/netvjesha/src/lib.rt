@@ -4,31 +4,17 @@ ghost use mathlib.Core.Path.{_≡_};
 ghost use Prim.Native.Nat.{_<_};
 ghost use lib.ListN.{length};
 ghost use Rattle.mark.specs.Mark as M;
-ghost use Rattle.tides.specs.Series as S;
+ghost use Rattle.series.specs.Series as S;
 ghost use Rattle.card.specs.Calls as L;
 ghost use Rattle.codec.specs.Codec as C;
-ghost use Rattle.codec.specs.Bytes as B;
+ghost use Rattle.records.specs.Bytes as B;
 ghost use Rattle.catalogue.specs.Lookup as K;
 ghost use Rattle.netvjesha.specs.Face as F;
 ghost use Rattle.netvjesha.specs.Steps as P;
-use card::Answer;
-use codec::CARD_LENGTH;
-use codec::bytes;
 use field::FIELD_LENGTH;
 use mark::Vec3;
 use tides::Body;
 use tides::BodyVector;
-
-// Writes the card of an accepted answer. A refused one writes nothing.
-fn settle(answer: Answer, out: &mut [u8]) -> u32
-    ensures { λ r. ⌜ r ≡ F.settledNumber answer (length (now (out .entry))) ⌝ }
-    ensures { λ r. ⌜ now (out .exit) ≡ F.settledOut answer (now (out .entry)) ⌝ }
-{
-    if answer.number != 0 {
-        return answer.number;
-    }
-    codec::write(answer.card, out)
-}
 
 // A body by its label, 1 a Sun and 0 a Moon, where both labels of the call are such. Else a Moon at `none`, and two Moons are no pair.
 fn labelled(la: u8, lb: u8, label: u8, none: BodyVector, v: BodyVector) -> Body
@@ -68,7 +54,7 @@ pub extern "C" fn nv_move(s: &[u8], d: i64, out: &mut [u8]) -> u32
     ensures { λ r. ⌜ r ≡ B.bytesNumber (length (now (out .entry))) (now (s .entry)) (L.move d) ⌝ }
     ensures { λ r. ⌜ now (out .exit) ≡ B.bytesOut (now (out .entry)) (now (s .entry)) (L.move d) ⌝ }
 {
-    bytes::move_by(s, d, out)
+    records::move_by(s, d, out)
 }
 
 // Shifts a card to a frame: 0 ITRF2008, 1 ITRF2005, 2 ITRF2000.
@@ -77,7 +63,7 @@ pub extern "C" fn nv_frame(s: &[u8], frame: u8, out: &mut [u8]) -> u32
     ensures { λ r. ⌜ r ≡ B.bytesNumber (length (now (out .entry))) (now (s .entry)) (L.frame frame) ⌝ }
     ensures { λ r. ⌜ now (out .exit) ≡ B.bytesOut (now (out .entry)) (now (s .entry)) (L.frame frame) ⌝ }
 {
-    bytes::to_frame(s, frame, out)
+    records::to_frame(s, frame, out)
 }
 
 // Adds the permanent shift: tide-free to mean-tide.
@@ -86,7 +72,7 @@ pub extern "C" fn nv_mean_on(s: &[u8], out: &mut [u8]) -> u32
     ensures { λ r. ⌜ r ≡ B.bytesNumber (length (now (out .entry))) (now (s .entry)) L.meanOn ⌝ }
     ensures { λ r. ⌜ now (out .exit) ≡ B.bytesOut (now (out .entry)) (now (s .entry)) L.meanOn ⌝ }
 {
-    bytes::mean_on(s, out)
+    records::mean_on(s, out)
 }
 
 // Takes the permanent shift away: mean-tide to tide-free.
@@ -95,7 +81,7 @@ pub extern "C" fn nv_mean_off(s: &[u8], out: &mut [u8]) -> u32
     ensures { λ r. ⌜ r ≡ B.bytesNumber (length (now (out .entry))) (now (s .entry)) L.meanOff ⌝ }
     ensures { λ r. ⌜ now (out .exit) ≡ B.bytesOut (now (out .entry)) (now (s .entry)) L.meanOff ⌝ }
 {
-    bytes::mean_off(s, out)
+    records::mean_off(s, out)
 }
 
 // Takes the stored solid tide away.
@@ -104,7 +90,7 @@ pub extern "C" fn nv_solid_off(s: &[u8], out: &mut [u8]) -> u32
     ensures { λ r. ⌜ r ≡ B.bytesNumber (length (now (out .entry))) (now (s .entry)) L.solidOff ⌝ }
     ensures { λ r. ⌜ now (out .exit) ≡ B.bytesOut (now (out .entry)) (now (s .entry)) L.solidOff ⌝ }
 {
-    bytes::solid_off(s, out)
+    records::solid_off(s, out)
 }
 
 // Adds the solid tide of a Moon (label 0, metres) and a Sun (label 1, kilometres), in either order, and stores it. Two Moons stand for a label
@@ -137,7 +123,7 @@ pub extern "C" fn nv_solid_on(
     };
     let first = labelled(la, lb, la, v, v);
     let second = labelled(la, lb, lb, v, w);
-    bytes::solid_on(s, first, second, out)
+    records::solid_on(s, first, second, out)
 }
 
 // Writes the field edition of a card, 48 bytes.
@@ -162,10 +148,7 @@ pub extern "C" fn nv_expand(edition: &[u8], out: &mut [u8]) -> u32
     ensures { λ r. ⌜ r ≡ F.expandedNumber (length (now (out .entry))) (now (edition .entry)) ⌝ }
     ensures { λ r. ⌜ now (out .exit) ≡ F.expandedOut (now (out .entry)) (now (edition .entry)) ⌝ }
 {
-    if out.len() != CARD_LENGTH {
-        return 1;
-    }
-    settle(field::expand(edition), out)
+    codec::put(field::expand(edition), out)
 }
 
 // Where a card stands from its mark: three doubles, metres.
@@ -221,7 +204,7 @@ pub extern "C" fn nv_series(x: i64, y: i64, z: i64, bodies: &[f64], out: &mut [i
     ensures { λ r. ⌜ r ≡ F.packedRows (S.seriesAnswer (M.vec x y z) (now (bodies .entry)) (length (now (out .entry)))) ⌝ }
     ensures { λ r. ⌜ now (out .exit) ≡ S.seriesNumbers (M.vec x y z) (now (bodies .entry)) (now (out .entry)) ⌝ }
 {
-    let done = tides::series(Vec3 { x, y, z }, bodies, out);
+    let done = series::series(Vec3 { x, y, z }, bodies, out);
     packed(done.number, done.row)
 }
 

@@ -109,6 +109,16 @@ near-odd (pos zero) b = rw (nearest-zero b)
 near-odd (pos (suc n)) b = refl
 near-odd (negsuc n) b = sym (negℤ-negℤ (pos (nearest (suc n) b)))
 
+-- an exact half goes away from zero: n/b = q + 1/2, and the same below zero
+pub near-away : (n b q : ℕ) → 0 < b → 2 * n ≡ 2 * (b * q) + b → near (pos n) b ≡ pos (suc q)
+unfolding near
+near-away n b q p h =
+    let up : b * suc q ≡ b * q + b = omega arith in
+    ap pos (nearest-is n b (suc q) (omega arith) (omega arith))
+
+pub near-away-below : (n b q : ℕ) → 0 < b → 2 * n ≡ 2 * (b * q) + b → near (negℤ (pos n)) b ≡ negℤ (pos (suc q))
+near-away-below n b q p h = near-odd (pos n) b ∙ ap negℤ (near-away n b q p h)
+
 -- exact at multiples
 multiple : (k b : ℕ) → 0 < b → nearest (k * b) b ≡ k
 multiple k b h = nearest-is (k * b) b k (omega arith) (omega arith)

@@ -5,8 +5,9 @@ use mathlib.Core.Bool.{Bool, true, false, cond}
 use Prim.Native.Nat.{ℕ, zero, suc, _+_, _-_, _*_, _^_, _≤_, _<_}
 use native.Mathlib.Nat.{le-of-suc-le-suc, lt-of-lt-of-le, mul-le-mul, mul-lt-mul-of-pos-left, mul-assoc, add-comm, le-add-right, ne-of-lt}
 use native.Mathlib.Omega.{arith}
+use borrow.Author.Tests.{leb-true, leb-false}
 use lib.Dec.{leb, eqb, le→leb, lit<, lit≤}
-use lib.IntN.{pos, natAbs}
+use lib.IntN.{ℤ, pos, natAbs}
 use lib.Ieee.{Float, nan, inf, fin, up, down, odd, ofFields, binary64}
 use lib.Ieee.Bits.{is-true, is-false}
 use lib.Ieee.Fits.{down-pos}
@@ -14,10 +15,34 @@ use lib.Ieee.Exact.{HasValue, odd-sign}
 use lib.Arith.{lt→nleb}
 use lib.Pow.{pow-add, pow-pos, pow-mono, shl-lt}
 use mir.Facts.{no-eqb}
-use Rattle.numbers.specs.declared.Rounded.the-variants.{Far, Number}
+use Rattle.numbers.specs.declared.Rounded.{Rounded}
+use Rattle.numbers.specs.declared.Rounded.the-variants.{NotFinite, Far, Number}
 use Rattle.numbers.specs.Near.{nearest, near}
-use Rattle.numbers.specs.Whole.{signed, none, some, wholeOf, shown}
+use Rattle.numbers.specs.Whole.{Nearest, signed, none, some, wholeOf, Means, shown}
 use Rattle.numbers.proofs.NearLaws.{near-odd, nearest-same, nearest-below-half, nearest-least}
+
+-- ---- the case that means a whole number, and that no other does
+
+pub shown-means : (n : Nearest) → Means (shown n) n
+unfolding Means shown
+shown-means none = refl
+shown-means (some z) = by (leb (natAbs z) (2 ^ 30)) refl
+  where
+    by : (t : Bool) → leb (natAbs z) (2 ^ 30) ≡ t → Means (cond t (Number z) Far) (some z)
+    by true e = (refl, leb-true (natAbs z) (2 ^ 30) e)
+    by false e = (z, (refl, leb-false (natAbs z) (2 ^ 30) e))
+
+pub means-shown : (r : Rounded) (n : Nearest) → Means r n → r ≡ shown n
+unfolding Means shown
+means-shown NotFinite n e = sym (ap shown e)
+means-shown Far n h = sym (ap shown (h .1 .0) ∙ far (h .0) (h .1 .1))
+  where
+    far : (z : ℤ) → 2 ^ 30 < natAbs z → cond (leb (natAbs z) (2 ^ 30)) (Number z) Far ≡ Far
+    far z k = rw (is-false (leb (natAbs z) (2 ^ 30)) (lt→nleb (natAbs z) (2 ^ 30) k))
+means-shown (Number z) n h = sym (ap shown (h .0) ∙ near-enough (h .1))
+  where
+    near-enough : natAbs z ≤ 2 ^ 30 → cond (leb (natAbs z) (2 ^ 30)) (Number z) Far ≡ Number z
+    near-enough k = rw (is-true (leb (natAbs z) (2 ^ 30)) (le→leb (natAbs z) (2 ^ 30) k))
 
 -- ---- what is shown of a whole number
 

@@ -54,7 +54,7 @@ pub fn root(n: u64) -> u64
 
 // The whole number nearest to x, halves away from zero, from its bits.
 pub fn whole(x: f64) -> Rounded
-    ensures { λ r. ⌜ r ≡ W.shown (W.wholeOf x) ⌝ }
+    ensures { λ r. ⌜ W.Means r (W.wholeOf x) ⌝ }
 {
     if x != x {
         return Rounded::NotFinite;
@@ -63,7 +63,8 @@ pub fn whole(x: f64) -> Rounded
 }
 
 // At least the root of n, below 2^32. By the chord a + b, a = 2^(e - 1), b = n/2^e, times 91/128, which is more than the root
-// of a half: below 2^60 less than 7 in 100 above the root, so that three steps are enough.
+// of a half: from 2^20 to 2^60 less than 7 in 100 above the root. A Moon's distance then takes two steps or three; no number was seen to
+// take over five.
 fn start(n: u64) -> u64
     ensures { λ r. ⌜ r < 2 ^ 32 ⌝ }
     ensures { λ r. ⌜ n < (r + 1) * (r + 1) ⌝ }

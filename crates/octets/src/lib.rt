@@ -58,6 +58,19 @@ pub fn put_bytes(out: &mut [u8], at: usize, from: &[u8])
     }
 }
 
+// Writes the byte `i` places after `at`.
+pub fn put_byte(out: &mut [u8], at: usize, i: usize, b: u8)
+    ensures { λ _. ⌜ now (out .exit) ≡ set (now (out .entry)) (at + i) b ⌝ }
+{
+    if out.len() <= at {
+        return;
+    }
+    if out.len() - at <= i {
+        return;
+    }
+    out[at + i] = b;
+}
+
 // Writes the last n digits of u to base 256 from `at` on. The end is tested once, so that the compiler stores the digits at once.
 fn put_digits(out: &mut [u8], at: usize, n: usize, u: u64)
     ensures { λ _. ⌜ now (out .exit) ≡ O.splice (now (out .entry)) at (O.digitsOf (min n 8) u) ⌝ }
@@ -87,19 +100,6 @@ fn put_run(out: &mut [u8], at: usize, n: usize, u: u64)
         out[at + left] = (rest % 256) as u8;
         rest = rest / 256;
     }
-}
-
-// Writes the byte `i` places after `at`.
-fn put_byte(out: &mut [u8], at: usize, i: usize, b: u8)
-    ensures { λ _. ⌜ now (out .exit) ≡ set (now (out .entry)) (at + i) b ⌝ }
-{
-    if out.len() <= at {
-        return;
-    }
-    if out.len() - at <= i {
-        return;
-    }
-    out[at + i] = b;
 }
 
 // The n bytes from `skip` places after `at` on.

@@ -1,39 +1,39 @@
-// Kinds 8 to 12: read, write, export, expand, metres.
-use crate::text;
+// Kinds 8 to 11: read, write, export, expand.
 use card::Answer;
 use card::Card;
 
-pub fn put_answer(r: Answer) {
-    wire::put_number(r.number);
-    text::put_card(r.card);
+pub fn answer_card(kind: u64, s: &[u8], out: &mut [u8]) -> usize {
+    let r = card_of(kind, s);
+    let end = wire::put_number(out, 0, r.number);
+    wire::put_card(out, end, r.card)
+}
+
+fn card_of(kind: u64, s: &[u8]) -> Answer {
+    if kind == 8 {
+        return codec::read(s);
+    }
+    field::expand(s)
 }
 
 // A card written into a lent buffer, as a card or as its field edition.
-pub fn answer_buffer(s: &[u8], edition: bool) {
+pub fn answer_buffer(kind: u64, s: &[u8], out: &mut [u8]) -> usize {
     let mut space = [0xEEu8; 200];
     let n = wire::at_most(octets::unsigned_at(s, 0, 4), 200);
-    put_written(raw_card(wire::from(s, 4)), edition, &mut space[..n]);
+    put_written(kind, wire::from(s, 4), &mut space[..n], out)
 }
 
-fn put_written(c: Card, edition: bool, out: &mut [u8]) {
-    let number = written(c, edition, out);
-    wire::put_number(number);
-    wire::put_run(out);
+fn put_written(kind: u64, s: &[u8], space: &mut [u8], out: &mut [u8]) -> usize {
+    let number = written(kind, s, space);
+    let end = wire::put_number(out, 0, number);
+    wire::put_run(out, end, space)
 }
 
-fn written(c: Card, edition: bool, out: &mut [u8]) -> u32 {
-    if edition {
-        return field::export(c, out);
+fn written(kind: u64, s: &[u8], space: &mut [u8]) -> u32 {
+    let c = raw_card(s);
+    if kind == 9 {
+        return codec::write(c, space);
     }
-    codec::write(c, out)
-}
-
-pub fn answer_metres(s: &[u8]) {
-    let r = field::metres_out(raw_card(s));
-    wire::put_natural(r.number as u64);
-    text::put_double(r.x);
-    text::put_double(r.y);
-    text::put_double(r.z);
+    field::export(c, space)
 }
 
 // The card of 115 bytes.

@@ -1,4 +1,6 @@
 // Runs the library on the second program's vectors of numbers, frames and tides, kinds 1 to 7 (docs/VECTORS.md), a line each.
+use libc::STDOUT_FILENO;
+
 mod rounding;
 mod shifts;
 
@@ -15,20 +17,27 @@ fn answer_one() -> bool {
     let mut space = io::large_buffer();
     let v = wire::read(&mut space);
     if v.more {
-        answer(v.kind, wire::first(&space, v.length));
-        wire::put(b"\n");
+        write_line(v.kind, wire::first(&space, v.length));
     }
     v.more
 }
 
-// The vector's line but for its end. A kind that is not here gets an empty line.
-fn answer(kind: u64, s: &[u8]) {
+// Makes a vector's line in a buffer, and writes it at once.
+fn write_line(kind: u64, s: &[u8]) {
+    let mut line = io::large_buffer();
+    let end = answer(kind, s, &mut line);
+    let whole = text::put_bytes(&mut line, end, b"\n");
+    io::write_all(STDOUT_FILENO, wire::first(&line, whole));
+}
+
+// Puts the vector's line but for its end, and answers its length. A kind that is not here gets an empty line.
+fn answer(kind: u64, s: &[u8], out: &mut [u8]) -> usize {
     match kind {
-        1..=3 => rounding::answer(kind, s),
-        4 => shifts::answer_permanent(s),
-        5 => shifts::answer_rows(s),
-        6 => shifts::answer_pair(s),
-        7 => shifts::answer_series(s),
-        _ => {}
+        1..=3 => rounding::answer(kind, s, out),
+        4 => shifts::answer_permanent(s, out),
+        5 => shifts::answer_rows(s, out),
+        6 => shifts::answer_pair(s, out),
+        7 => shifts::answer_series(s, out),
+        _ => 0,
     }
 }

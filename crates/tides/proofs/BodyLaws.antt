@@ -17,6 +17,7 @@ use Rattle.tides.specs.declared.BodyVector.{BodyVector}
 use Rattle.tides.specs.declared.Body.{Body}
 use Rattle.tides.specs.declared.Body.the-variants.{Moon, Sun}
 use Rattle.tides.specs.declared.Shift.{Shift}
+use Rattle.tides.specs.declared.bodies.Sight.{Sight}
 use Rattle.tides.specs.Bodies.{wholes, finite, inReach, paired, moonOf, sunOf}
 use Rattle.tides.specs.Steps.{clipped, sightOf, bothOf}
 use Rattle.tides.specs.Tide.{tide, bodiesNumber, tideNumber, tideAnswer}
@@ -131,6 +132,10 @@ merged false gv fw gw = refl
 pub both-numbers : (v w : BodyVector) → bothOf (sightOf 350000000 410000000 v .number) (sightOf 146000000 153000000 w .number) ≡ bodiesNumber v w
 unfolding sightOf bodiesNumber inReach first
 both-numbers v w = merged (finite v) (between 350000000 410000000 (lengthOf (wholes v))) (finite w) (between 146000000 153000000 (lengthOf (wholes w)))
+
+-- the same, as the steps find it
+pub together : (v w : BodyVector) (p q : Sight) (n : ℕ) → p ≡ sightOf 350000000 410000000 v → q ≡ sightOf 146000000 153000000 w → n ≡ bothOf (p .number) (q .number) → n ≡ bodiesNumber v w
+together v w p q n ep eq en = en ∙ rw (ep, eq) (both-numbers v w)
 
 both-zero-at : (a b c : Bool) (v w : ℕ) → eqb v 10 ≡ a → eqb w 10 ≡ b → eqb v 0 ≡ c → cond a 10 (cond b 10 (cond c w v)) ≡ 0 → (v ≡ 0) × (w ≡ 0)
 both-zero-at true b c v w p q r e = absurd (eqb-false 10 0 refl e)

@@ -4,5 +4,5 @@ pub mod DirectionLaws
 pub mod PermanentLaws
 pub mod BodyLaws
 pub mod TideLaws
-pub mod SeriesLaws
+pub mod AimLaws
 pub mod Constants

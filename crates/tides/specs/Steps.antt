@@ -1,7 +1,7 @@
 -- What the private steps ask for and answer, in the words of the paper's definitions. No promise to the outside cites these.
 use mathlib.Core.Bool.{not, cond, _&&_}
-use mathlib.Core.List.{[], _∷_, List, _++_}
-use Prim.Native.Nat.{ℕ, _+_, _*_, _≤_, _^_, zero, suc}
+use mathlib.Core.List.{[], _∷_}
+use Prim.Native.Nat.{ℕ, _+_, _*_, _≤_, _^_}
 use lib.Dec.{eqb, leb}
 use lib.IntN.{natAbs, ℤ, pos}
 use lib.Ieee.{Float}
@@ -18,8 +18,6 @@ use Rattle.tides.specs.declared.bodies.Coordinate.{Coordinate}
 use Rattle.tides.specs.declared.bodies.Wholes.{Wholes}
 use Rattle.tides.specs.Direction.{E}
 use Rattle.tides.specs.Bodies.{wholes, finite, isNumber, numberOf}
-use Rattle.tides.specs.Tide.{tideAt, bodiesNumber}
-use Rattle.tides.specs.Series.{moonAt, sunAt, three}
 use Rattle.numbers.specs.Whole.{wholeOf}
 
 -- a unit vector after rounding: each component at most E, the length at most 172 units more than E
@@ -61,12 +59,3 @@ wholesOf v = record { finite = finite v; at = each clipped (wholes v) }
 -- the refusal of a Moon and a Sun from the refusal of each: 10 of either comes before 11 of either
 unfoldable pub bothOf : ℕ → ℕ → ℕ
 bothOf v w = cond (eqb v 10) 10 (cond (eqb w 10) 10 (cond (eqb v 0) w v))
-
--- an answer for two bodies at the mark's unit vector u: 10, 11, or the tide
-unfoldable pub pairAnswer : Vec3 → BodyVector → BodyVector → Shift
-pairAnswer u v w = record { number = bodiesNumber v w; shift = cond (eqb (bodiesNumber v w) 0) (tideAt u v w) nowhere }
-
--- the answers' shifts of the k rows from row i on, at the unit vector u: zeros at a refused row
-unfoldable pub shiftsFrom : Vec3 → List Float → ℕ → ℕ → List ℤ
-shiftsFrom u bodies i zero = []
-shiftsFrom u bodies i (suc k) = three (pairAnswer u (moonAt bodies i) (sunAt bodies i) .shift) ++ shiftsFrom u bodies (i + 1) k

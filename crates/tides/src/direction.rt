@@ -5,6 +5,7 @@ ghost use lib.IntN.{natAbs, _*ℤ_};
 ghost use mir.Syntax.{w64};
 ghost use mir.Val.{SFits};
 ghost use Rattle.mark.specs.Ranges as G;
+ghost use Rattle.tides.specs.Aim as U;
 ghost use Rattle.tides.specs.Direction as D;
 use mark::Vec3;
 
@@ -34,6 +35,19 @@ pub fn units(v: Vec3, l: u64) -> Vec3
         y: unit(v.y, l),
         z: unit(v.z, l),
     }
+}
+
+// u is not too long for a mark's direction: each component at most E, the sum of the squares at most E E + 344 E.
+pub fn directed(u: Vec3) -> bool
+    ensures { λ r. ⌜ r ≡ U.directed u ⌝ }
+{
+    if !mark::sized(u, 1073741824) {
+        return false;
+    }
+    let x = numbers::magnitude(u.x);
+    let y = numbers::magnitude(u.y);
+    let z = numbers::magnitude(u.z);
+    x * x + y * y + z * z <= 1152921873974034432
 }
 
 // near((3 s - E)/2).

@@ -1,16 +1,15 @@
-// The tides, worked out from the mark, in grains (1,461 grains are a micrometre): the permanent shift, the solid tide, and a series of it. Every
-// function takes any mark and any bodies, and refuses by number.
+// The tides, worked out from the mark, in grains (1,461 grains are a micrometre): the permanent shift, the solid tide, and what a series of it needs: the
+// mark's direction once, the bodies' refusal and the tide at that direction for each row. Every function takes any numbers and any bodies, and refuses by
+// number.
 ghost use mathlib.Core.Path.{_≡_};
-ghost use lib.ListN.{length};
 ghost use Rattle.tides.specs.Permanent as P;
 ghost use Rattle.tides.specs.Tide as T;
-ghost use Rattle.tides.specs.Series as S;
+ghost use Rattle.tides.specs.Aim as U;
 ghost use Rattle.tides.specs.Steps as Y;
 use mark::Vec3;
 
 mod bodies;
 mod direction;
-mod many;
 mod mean;
 mod solid;
 
@@ -32,10 +31,10 @@ pub enum Body {
     Sun(BodyVector),
 }
 
-// What a series answers: 0 and the number of rows, 10 or 11 and the first bad row, 6 or 16 and 0.
-pub struct Rows {
+// The direction of a mark, in units of 1/E, with 0; zeros with 6.
+pub struct Aim {
     pub number: u32,
-    pub row: usize,
+    pub u: Vec3,
 }
 
 // The permanent shift from tide-free to mean-tide at a mark, or 6.
@@ -74,29 +73,40 @@ pub fn solid_tide(m: Vec3, first: Body, second: Body) -> Shift
     }
 }
 
-// The tides of many rows of bodies, six doubles to a row (Moon, then Sun), into three numbers to a row. A refusal writes no number.
-pub fn series(m: Vec3, bodies: &[f64], out: &mut [i64]) -> Rows
-    ensures { λ r. ⌜ r ≡ S.seriesAnswer m (now (bodies .entry)) (length (now (out .entry))) ⌝ }
-    ensures { λ r. ⌜ now (out .exit) ≡ S.seriesNumbers m (now (bodies .entry)) (now (out .entry)) ⌝ }
+// The refusal of a Moon and a Sun: 10 where either is not finite, else 11 where either is out of reach, else 0.
+pub fn bodies_number(moon: BodyVector, sun: BodyVector) -> u32
+    ensures { λ r. ⌜ r ≡ T.bodiesNumber moon sun ⌝ }
+{
+    let a = bodies::see(moon, bodies::MOON_LEAST, bodies::MOON_MOST);
+    let b = bodies::see(sun, bodies::SUN_LEAST, bodies::SUN_MOST);
+    bodies::both(a.number, b.number)
+}
+
+// The direction of a mark, or 6.
+pub fn direction_of(m: Vec3) -> Aim
+    ensures { λ r. ⌜ r ≡ U.aimOf m ⌝ }
 {
     let l = mark::length_of(m);
     if l == 0 {
-        return Rows { number: 6, row: 0 };
+        return Aim {
+            number: 6,
+            u: Vec3 { x: 0, y: 0, z: 0 },
+        };
     }
-    let rows = out.len() / 3;
-    if bodies.len() != 6 * rows {
-        return Rows { number: 16, row: 0 };
+    Aim {
+        number: 0,
+        u: direction::units(m, l),
     }
-    if out.len() != 3 * rows {
-        return Rows { number: 16, row: 0 };
+}
+
+// The solid tide under a Moon and a Sun at a mark's direction u, or 6 where u is too long for one, 10 not finite, 11 out of reach.
+pub fn pair_at(u: Vec3, moon: BodyVector, sun: BodyVector) -> Shift
+    ensures { λ r. ⌜ r ≡ U.pairAt u moon sun ⌝ }
+{
+    if !direction::directed(u) {
+        return refused(6);
     }
-    let seen = many::scan(bodies, rows);
-    if seen.number != 0 {
-        return seen;
-    }
-    let u = direction::units(m, l);
-    many::fill(u, bodies, rows, out);
-    seen
+    solid::pair_tide(u, moon, sun)
 }
 
 fn refused(number: u32) -> Shift

@@ -4,6 +4,7 @@ ghost use Prim.Native.Nat.{_+_, _*_, _^_, _≤_, _<_};
 ghost use lib.IntN.{natAbs, pos};
 ghost use Rattle.mark.specs.Mark as M;
 ghost use Rattle.mark.specs.Ranges as G;
+ghost use Rattle.tides.specs.Aim as U;
 ghost use Rattle.tides.specs.Tide as T;
 ghost use Rattle.tides.specs.Steps as Y;
 use crate::BodyVector;
@@ -122,7 +123,7 @@ pub fn seen_part(r0: i64, k0: i64, u: Vec3, s: Sight) -> Vec3
 // 10, 11 or the tide of a Moon and a Sun at the unit vector u.
 pub fn pair_tide(u: Vec3, v: BodyVector, w: BodyVector) -> Shift
     requires { ⌜ Y.Direction u ⌝ }
-    ensures { λ r. ⌜ r ≡ Y.pairAnswer u v w ⌝ }
+    ensures { λ r. ⌜ r ≡ U.pairAnswer u v w ⌝ }
 {
     let nowhere = Vec3 { x: 0, y: 0, z: 0 };
     let moon = see(v, MOON_LEAST, MOON_MOST);

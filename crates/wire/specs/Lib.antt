@@ -1,2 +1,3 @@
--- The parts of a vector's payload.
+-- The parts of a vector's payload and of an answering line.
 pub mod Payload
+pub mod Line

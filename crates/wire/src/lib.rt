@@ -1,10 +1,14 @@
 // What a vector's payload holds, and what an answering line is made of (docs/VECTORS.md). The programs that answer vectors share it.
+// A part of a line is put at a place in a lent buffer, as those of `text` are, and the place after it is answered.
 ghost use mathlib.Core.Path.{_≡_};
 ghost use Prim.Native.Nat.{_≤_, min};
 ghost use lib.ListN.{drop, getD, length, take};
+ghost use Rattle.octets.specs.Octets as O;
+ghost use Rattle.text.specs.Text as T;
+ghost use Rattle.wire.specs.Line as L;
 ghost use Rattle.wire.specs.Payload as P;
+use card::Card;
 use libc::STDIN_FILENO;
-use libc::STDOUT_FILENO;
 use mark::Vec3;
 use tides::Body;
 use tides::BodyVector;
@@ -101,50 +105,56 @@ pub fn body_at(s: &[u8], at: u16) -> Body
     Body::Sun(v)
 }
 
-pub fn put(s: &[u8]) {
-    io::write_all(STDOUT_FILENO, s);
-}
-
-pub fn put_natural(n: u64) {
-    io::print_decimal(STDOUT_FILENO, n);
-}
-
-pub fn put_signed(z: i64) {
-    if z < 0 {
-        put(b"-");
-    }
-    put_natural(numbers::magnitude(z));
-}
-
-// A number with a space before it.
-pub fn put_next(z: i64) {
-    put(b" ");
-    put_signed(z);
-}
-
 // An answer's number, and a space.
-pub fn put_number(n: u32) {
-    put_natural(n as u64);
-    put(b" ");
+pub fn put_number(out: &mut [u8], at: usize, n: u32) -> usize
+    ensures { λ r. ⌜ r ≡ T.after at (length (L.numberPart n)) ⌝ }
+    ensures { λ _. ⌜ now (out .exit) ≡ O.splice (now (out .entry)) at (L.numberPart n) ⌝ }
+{
+    let end = text::put_natural(out, at, n as u64);
+    text::put_bytes(out, end, b" ")
 }
 
 // Three numbers, with a space before each.
-pub fn put_vector(v: Vec3) {
-    put_next(v.x);
-    put_next(v.y);
-    put_next(v.z);
+pub fn put_vector(out: &mut [u8], at: usize, v: Vec3) -> usize
+    ensures { λ r. ⌜ r ≡ T.after at (length (L.vectorPart v)) ⌝ }
+    ensures { λ _. ⌜ now (out .exit) ≡ O.splice (now (out .entry)) at (L.vectorPart v) ⌝ }
+{
+    let x = text::put_next(out, at, v.x);
+    let y = text::put_next(out, x, v.y);
+    text::put_next(out, y, v.z)
+}
+
+// A card's 16 parts: the site, and five times three numbers.
+pub fn put_card(out: &mut [u8], at: usize, c: Card) -> usize
+    ensures { λ r. ⌜ r ≡ T.after at (length (L.cardPart c)) ⌝ }
+    ensures { λ _. ⌜ now (out .exit) ≡ O.splice (now (out .entry)) at (L.cardPart c) ⌝ }
+{
+    let site = c.site;
+    let s = put_run(out, at, &site);
+    let e = put_first(out, s, c.frame, c.tide, c.epoch);
+    let m = put_vector(out, e, c.mark);
+    let v = put_vector(out, m, c.velocity);
+    let p = put_vector(out, v, c.position);
+    put_vector(out, p, c.solid)
+}
+
+// A card's frame, byte 10 and epoch.
+fn put_first(out: &mut [u8], at: usize, frame: u8, tide: u8, epoch: i64) -> usize
+    ensures { λ r. ⌜ r ≡ T.after at (length (L.firstPart frame tide epoch)) ⌝ }
+    ensures { λ _. ⌜ now (out .exit) ≡ O.splice (now (out .entry)) at (L.firstPart frame tide epoch) ⌝ }
+{
+    let f = text::put_next(out, at, frame as i64);
+    let t = text::put_next(out, f, tide as i64);
+    text::put_next(out, t, epoch)
 }
 
 // The bytes as hex, and `-` where there are none.
-pub fn put_run(s: &[u8]) {
+pub fn put_run(out: &mut [u8], at: usize, s: &[u8]) -> usize
+    ensures { λ r. ⌜ r ≡ T.after at (length (L.runPart (now (s .entry)))) ⌝ }
+    ensures { λ _. ⌜ now (out .exit) ≡ O.splice (now (out .entry)) at (L.runPart (now (s .entry))) ⌝ }
+{
     if s.len() == 0 {
-        put(b"-");
+        return text::put_bytes(out, at, b"-");
     }
-    for i in 0..s.len() {
-        put_byte(s[i]);
-    }
-}
-
-fn put_byte(b: u8) {
-    io::print_hex(STDOUT_FILENO, b as u64, 2);
+    text::put_hex(out, at, s)
 }

@@ -15,7 +15,7 @@ prefix n s h e = simp length-take (omega arith)
 slice-aggregate-write-all : tie.Need-slice-aggregate-write-all
 slice-aggregate-write-all c =
     let f = c .before .before .fill in
-    prefix (f .result) (f .last .1 .0) (f .ensures) (f .kept .1 .0 ∙ length-replicate {A = ℕ} outputMost 0)
+    prefix (f .result) (f .last .1 .0) (f .ensures .1 .1) (f .kept .1 .0 ∙ length-replicate {A = ℕ} outputMost 0)
 
 pub list-some-spec : {M : Type 1} → statement M
 list-some-spec =

@@ -3,7 +3,7 @@ use mathlib.Core.Path.{ap}
 use borrow.Author.Needs.{needs}
 use mir.Facts.{toZ-ofZ}
 use Rattle.card.specs.Calls.{move}
-use Rattle.codec.proofs.BytesLaws.{same-call}
+use Rattle.records.proofs.BytesLaws.{same-call}
 use Rattle.netvjesha.proofs.nv_move.Statement.{statement}
 use Rattle.netvjesha.proofs.nv_move.Tie as tie
 

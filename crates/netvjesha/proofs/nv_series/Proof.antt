@@ -1,4 +1,4 @@
--- `netvjesha::nv_series` meets its contract: what `tides::series` answers, packed. Assumes nothing.
+-- `netvjesha::nv_series` meets its contract: what `series::series` answers, packed. Assumes nothing.
 use mathlib.Core.Path.{_≡_, ap, _∙_, subst⁻¹}
 use Prim.Native.Nat.{_<_}
 use borrow.Author.Needs.{needs}
@@ -6,8 +6,8 @@ use lib.ListN.{length}
 use Rattle.algebra.proofs.Machine.{rd}
 use Rattle.mark.specs.declared.Vec3.{Vec3}
 use Rattle.mark.specs.Mark.{vec}
-use Rattle.tides.specs.declared.Rows.{Rows}
-use Rattle.tides.specs.Series.{seriesAnswer, seriesNumbers}
+use Rattle.series.specs.declared.Rows.{Rows}
+use Rattle.series.specs.Series.{seriesAnswer, seriesNumbers}
 use Rattle.netvjesha.specs.Face.{packedRows}
 use Rattle.netvjesha.proofs.TripleLaws.{back}
 use Rattle.netvjesha.proofs.PackLaws.{series-small}

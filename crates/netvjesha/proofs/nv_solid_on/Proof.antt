@@ -2,7 +2,7 @@
 use mathlib.Core.Path.{ap₂, _∙_}
 use borrow.Author.Needs.{needs}
 use Rattle.card.specs.Calls.{solidOn}
-use Rattle.codec.proofs.BytesLaws.{same-call}
+use Rattle.records.proofs.BytesLaws.{same-call}
 use Rattle.netvjesha.proofs.FaceLaws.{solid-labelled}
 use Rattle.netvjesha.proofs.nv_solid_on.Statement.{statement}
 use Rattle.netvjesha.proofs.nv_solid_on.Tie as tie

@@ -13,7 +13,8 @@ use Rattle.tides.specs.declared.Body.the-variants.{Moon, Sun}
 use Rattle.tides.specs.Direction.{units}
 use Rattle.tides.specs.Bodies.{paired, moonOf, sunOf}
 use Rattle.tides.specs.Tide.{tide, bodiesNumber, tideNumber, tideAnswer}
-use Rattle.tides.specs.Steps.{refusedWith, pairAnswer, Direction}
+use Rattle.tides.specs.Aim.{pairAnswer}
+use Rattle.tides.specs.Steps.{refusedWith, Direction}
 use Rattle.tides.proofs.PermanentLaws.{accepted-wide, accepted-direction}
 use Rattle.tides.proofs.BodyLaws.{either-order}
 use Rattle.tides.proofs.solid_tide.Statement.{statement}

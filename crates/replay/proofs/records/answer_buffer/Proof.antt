@@ -6,10 +6,10 @@ use Rattle.replay.proofs.records.answer_buffer.Statement.{statement}
 use Rattle.replay.proofs.records.answer_buffer.Tie as tie
 
 slice-aggregate-put-written : tie.Need-slice-aggregate-put-written
-slice-aggregate-put-written c = part-length _ _ _ (c .before .before .before .at-most .ensures) refl
+slice-aggregate-put-written c = part-length _ _ _ (c .before .before .at-most .ensures) refl
 
 pub answer-buffer-spec : {M : Type 1} → statement M
 answer-buffer-spec =
     tie.close
-    (tie.spec (λ c κs. search needs) (λ c κs. search needs) (λ c κs. search needs) (λ c κs. search needs) (λ c. search needs)
-    slice-aggregate-put-written (λ c κs. search needs) (λ c. search needs))
+    (tie.spec (λ c κs. search needs) (λ c κs. search needs) (λ c κs. search needs) (λ c. search needs) slice-aggregate-put-written
+    (λ c κs. search needs) (λ c. search needs) (λ c. search needs))

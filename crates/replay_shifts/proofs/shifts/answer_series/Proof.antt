@@ -15,4 +15,4 @@ pub answer-series-spec : {M : Type 1} → statement M
 answer-series-spec =
     tie.close
     (tie.spec (λ c κs. search needs) (λ c κs. search needs) (λ c κs. search needs) (λ c κs. search needs) (λ c. search needs)
-    slice-aggregate-put-series (λ c. search needs) slice-aggregate-put-series-2 (λ c κs. search needs) (λ c. search needs))
+    slice-aggregate-put-series (λ c. search needs) slice-aggregate-put-series-2 (λ c κs. search needs) (λ c. search needs) (λ c. search needs))

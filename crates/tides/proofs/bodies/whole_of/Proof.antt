@@ -12,7 +12,8 @@ use Rattle.tides.specs.Bodies.{isNumber, numberOf}
 use Rattle.tides.specs.Steps.{clipped, coordinateOf}
 use Rattle.numbers.specs.declared.Rounded.{Rounded}
 use Rattle.numbers.specs.declared.Rounded.the-variants.{NotFinite, Far, Number}
-use Rattle.numbers.specs.Whole.{Nearest, none, some, wholeOf, shown}
+use Rattle.numbers.specs.Whole.{Nearest, none, some, wholeOf, Means, shown}
+use Rattle.numbers.proofs.WholeLaws.{means-shown}
 use Rattle.tides.proofs.bodies.whole_of.Statement.{statement}
 use Rattle.tides.proofs.bodies.whole_of.Tie as tie
 
@@ -35,9 +36,9 @@ unfolding shown clipped
 told-is none = refl
 told-is (some z) = told-some (leb (natAbs z) (2 ^ 30)) z
 
-from : (x : Float) (r : Rounded) → r ≡ shown (wholeOf x) → told r ≡ coordinateOf x
+from : (x : Float) (r q : Rounded) → q ≡ r → Means q (wholeOf x) → told r ≡ coordinateOf x
 unfolding coordinateOf
-from x r e = ap told e ∙ told-is (wholeOf x)
+from x r q e m = ap told (sym e ∙ means-shown q (wholeOf x) m) ∙ told-is (wholeOf x)
 
 enum-told : tie.Need-enum-told
 enum-told c = search needs
@@ -46,11 +47,11 @@ returns-3 : tie.Need-returns-3
 returns-3 c =
     let z = c .before .w .given .0 .0 in
     ap (coordinate true) (answered z (c .known-told .given .0 .1))
-    ∙ from (c .before .before .before .before .args .x) (Number z) (sym (c .before .w .given .1) ∙ c .before .before .before .whole .ensures)
+    ∙ from (c .before .before .before .before .args .x) (Number z) (c .before .before .before .whole .result) (c .before .w .given .1) (c .before .before .before .whole .ensures)
 
 pub whole-of-spec : {M : Type 1} → statement M
 whole-of-spec =
     tie.close
     (tie.spec (λ c κs. search needs) enum-told (λ c. search needs) (λ c. search needs)
-    (λ c. from (c .before .before .before .args .x) NotFinite (sym (c .enum-told .given .1) ∙ c .before .before .whole .ensures))
-    (λ c. from (c .before .before .before .args .x) Far (sym (c .enum-told2 .given .1) ∙ c .before .before .whole .ensures)) returns-3)
+    (λ c. from (c .before .before .before .args .x) NotFinite (c .before .before .whole .result) (c .enum-told .given .1) (c .before .before .whole .ensures))
+    (λ c. from (c .before .before .before .args .x) Far (c .before .before .whole .result) (c .enum-told2 .given .1) (c .before .before .whole .ensures)) returns-3)

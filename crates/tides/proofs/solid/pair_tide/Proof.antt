@@ -16,10 +16,11 @@ use Rattle.tides.specs.declared.BodyVector.{BodyVector}
 use Rattle.tides.specs.declared.Shift.{Shift}
 use Rattle.tides.specs.declared.bodies.Sight.{Sight}
 use Rattle.tides.specs.Bodies.{moon, sun, wholes}
-use Rattle.tides.specs.Steps.{sightOf, bothOf, refusedWith, pairAnswer}
+use Rattle.tides.specs.Aim.{pairAnswer}
+use Rattle.tides.specs.Steps.{sightOf, refusedWith}
 use Rattle.tides.specs.Tide.{part, partOf, tideAt, bodiesNumber}
 use Rattle.tides.proofs.TideLaws.{moon-part-small, sun-part-small}
-use Rattle.tides.proofs.BodyLaws.{sighted, both-numbers, both-zero}
+use Rattle.tides.proofs.BodyLaws.{sighted, together, both-zero}
 use Rattle.tides.proofs.solid.pair_tide.Statement.{statement}
 use Rattle.mark.specs.Mark as Mark
 use Rattle.tides.proofs.solid.pair_tide.Tie as tie
@@ -50,9 +51,6 @@ moved : (r0 k0 : ℕ) (u : Vec3) (v : BodyVector) (p : Sight) (a : Vec3) → a �
 moved r0 k0 u v p a e f = e ∙ ap (λ (w : Vec3). partOf r0 k0 u w (lengthOf w)) f
 
 -- ---- the answers
-
-together : (v w : BodyVector) (p q : Sight) (n : ℕ) → p ≡ sightOf 350000000 410000000 v → q ≡ sightOf 146000000 153000000 w → n ≡ bothOf (p .number) (q .number) → n ≡ bodiesNumber v w
-together v w p q n ep eq en = en ∙ rw (ep, eq) (both-numbers v w)
 
 refused : (u : Vec3) (v w : BodyVector) (n : ℕ) → n ≡ bodiesNumber v w → (n ≡ 0 → ⊥) → refusedWith n ≡ pairAnswer u v w
 unfolding pairAnswer

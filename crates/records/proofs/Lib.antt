@@ -1,0 +1,2 @@
+-- The laws of a call on bytes.
+pub mod BytesLaws

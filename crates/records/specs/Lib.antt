@@ -1,0 +1,2 @@
+-- A call from a card's bytes to a lent buffer.
+pub mod Bytes

@@ -1,0 +1,2 @@
+-- The laws of the tide series.
+pub mod SeriesLaws

@@ -1,0 +1,3 @@
+-- The paper's section on the tide series.
+pub mod Series
+pub mod Steps

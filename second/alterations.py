@@ -1,0 +1,182 @@
+"""The altered versions that second/altered.py runs, of numbers, frames and tides: each is one change in one file of the paper's rules.
+
+A row is a name, the old text, which stands exactly once in its file, and the new text. Where the change can alter no answer at all, the
+row's fourth part says why, and the run fails when an answer differs all the same. alterations_cards.py has the rows of the other files.
+"""
+
+from typing import NamedTuple
+
+
+class Alteration(NamedTuple):
+    name: str
+    file: str       # of second/, without .py
+    old: str
+    new: str
+    same: str = ""  # why no answer can differ
+
+
+def cut(a, b):
+    """near(a/b) rounded down, for the steps where no half comes up."""
+    return f"near({a}, {b})", f"(({a}) // ({b}))"
+
+
+def half_to_zero(a, b):
+    """near(a/b) with exact halves towards zero, for the steps where a half comes up."""
+    return f"near({a}, {b})", f"near(2 * ({a}) - (({a}) > 0) + (({a}) < 0), 2 * ({b}))"
+
+
+def half_up(a, b):
+    """near(a/b) with exact halves towards the greater number."""
+    return f"near({a}, {b})", f"((2 * ({a}) + ({b})) // (2 * ({b})))"
+
+
+def swap(first, second):
+    return first + second, second + first
+
+
+# Lines of root: its step, and the one that holds it against the library's own; lines of near.
+TRY, HELD = "if trial * trial <= n:\n            r = trial\n", "    assert r == math.isqrt(n)\n"
+SIZE = "    size = (2 * abs(a) + b) // (2 * b)\n    return -size if a < 0 else size"
+
+ROUNDING = (
+    ("scale", "E = 1 << 30", "E = 1 << 29"),
+    ("near-half-to-zero", "(2 * abs(a) + b) // (2 * b)", "(2 * abs(a) + b - 1) // (2 * b)"),
+    ("near-half-up", SIZE, "    return (2 * a + b) // (2 * b)"),
+    ("near-half-to-even", SIZE, "    low, left = divmod(a, b)\n    return low + (2 * left > b or (2 * left == b and low % 2 == 1))"),
+    ("near-by-zero", "if b == 0:\n        return 0", "if b == 0:\n        return a"),
+    ("root-square-low", TRY + HELD, TRY.replace("<=", "<")),
+    ("root-not-held", HELD, "", "the line only holds the root against the library's own, and it always agrees"),
+    ("infinity-far", "return NOT_FINITE", "return NOT_FINITE if parts(bits)[2] else FAR"),
+    ("hidden-bit-always", "fraction if field == 0 else fraction | (1 << 52)", "fraction | (1 << 52)",
+     "a denormal is under 2^-1021 with or without the hidden bit, and rounds to 0"),
+    ("double-scale", "max(field, 1) - 1075", "max(field, 1) - 1076"),
+    ("double-sign", "    if sign:\n", "    if sign and field > 1022:\n"),
+    ("far-limit-itself", "abs(value) > E", "abs(value) >= E"),
+    ("far-before-rounding", "FAR if abs(value) > E", "FAR if abs(ratio(bits)[0]) > E * ratio(bits)[1]"),
+)
+
+UNITS = (
+    ("metre", "1_461_000_000", "1_461_000_001"),
+    ("tenth-mm", "146_100", "146_000"),
+    ("minus-reversed", "p - q", "q - p"),
+    ("within-least-out", "-limit <= v <= limit", "-limit < v <= limit"),
+    ("within-most-out", "-limit <= v <= limit", "-limit <= v < limit"),
+)
+
+MARK = (
+    ("mark-least-less", "6_300_000", "6_299_999"),
+    ("mark-most-more", "6_400_000", "6_400_001"),
+    ("mark-squares", "L_LEAST <= length(mark) <= L_MOST", "L_LEAST**2 <= sum(m * m for m in mark) <= L_MOST**2"),
+    ("unit-cut", *cut("m * E", "size")),
+    ("unit-exact-length", "near(m * E, size)", "near(m * E << 40, root(sum(v * v for v in mark) << 80))"),
+)
+
+PERMANENT = (
+    ("radial-digit", "176_196_600", "176_196_601"),
+    ("north-digit", "36_817_200", "36_817_201"),
+    ("slope-digit", "146_100", "146_101"),
+    ("s2-cut", *cut("uz * uz", "E")),
+    ("P-half-to-zero", *half_to_zero("3 * s2 - E", "2")),
+    ("P-half-up", *half_up("3 * s2 - E", "2")),
+    ("e-half-to-zero", *half_to_zero("SLOPE * p", "E")),
+    ("A-half-to-zero", *half_to_zero("(e - RADIAL) * p", "E")),
+    ("A-sign-of-e", "(e - RADIAL) * p", "(-e - RADIAL) * p"),
+    ("T-sign-of-e", "-NORTH - e", "-NORTH + e"),
+    ("w-half-to-zero", *half_to_zero("t * s2", "E")),
+    ("T-once", "flat + 2 * t", "flat + t"),
+    ("shift-x-half-to-zero", *half_to_zero("flat * ux", "E")),
+    ("shift-y-half-to-zero", *half_to_zero("flat * uy", "E")),
+    ("shift-z-half-to-zero", *half_to_zero("(flat + 2 * t) * uz", "E")),
+)
+
+FRAMES = (
+    ("frame-2005-T-x", "(-20, -9, -47)", "(-21, -9, -47)"),
+    ("frame-2005-T-y", "(-20, -9, -47)", "(-20, 9, -47)"),
+    ("frame-2005-T-z", "(-20, -9, -47)", "(-20, -9, -46)"),
+    ("frame-2005-D", "94,", "95,"),
+    ("frame-2005-T-rate", "(3, 0, 0)", "(2, 0, 0)"),
+    ("frame-2005-D-rate", "(3, 0, 0), 0", "(3, 0, 0), 1"),
+    ("frame-2000-T", "(-19, -17, -105)", "(-19, -17, -104)"),
+    ("frame-2000-D", "134,", "133,"),
+    ("frame-2000-T-rate", "(1, 1, -18)", "(1, 0, -18)"),
+    ("frame-2000-D-rate", "(1, 1, -18), 8", "(1, 1, -18), 9"),
+    ("frame-2008-D", "0: ((0, 0, 0), 0,", "0: ((0, 0, 0), 1,"),
+    ("frame-3-known", "return frame in ROWS", "return 0 <= frame <= 3"),
+    ("row-a-half-to-zero", *half_to_zero("1_461 * d * mark[i]", "100_000")),
+    ("row-a-half-up", *half_up("1_461 * d * mark[i]", "100_000")),
+    ("row-a-rounded-first", "near(1_461 * d * mark[i], 100_000)", "1_461 * near(d * mark[i], 100_000)"),
+    ("row-b-half-to-zero", *half_to_zero("d_rate * mark[i]", "100_000")),
+    ("row-b-half-up", *half_up("d_rate * mark[i]", "100_000")),
+    ("position-gain-back", "at_epoch(new, mark, epoch), at_epoch(old, mark, epoch)", "at_epoch(old, mark, epoch), at_epoch(new, mark, epoch)"),
+    ("velocity-gain-back", "row_b(new, mark), row_b(old, mark)", "row_b(old, mark), row_b(new, mark)"),
+)
+
+# judge's three tests, in the order of the paper.
+NAN = "    if NOT_FINITE in moon + sun:\n        return 10, None, None\n"
+LONG = "    if FAR in moon + sun:\n        return 11, None, None\n"
+MOON_FIRST = "    if NOT_FINITE not in moon and (FAR in moon or not in_range(MOON, moon)):\n        return 11, None, None\n"
+
+BODIES = (
+    ("moon-reference", "384_400_000", "384_400_001"),
+    ("sun-reference", "149_597_870", "149_597_871"),
+    ("moon-least", "350_000_000", "350_000_001"),
+    ("moon-most", "410_000_000", "410_000_001"),
+    ("sun-least", "146_000_000", "145_999_999"),
+    ("sun-most", "153_000_000", "152_999_999"),
+    ("earth-radius", "63_781_366", "63_781_365"),
+    ("moon-ratio", "123_000_371", "123_000_372"),
+    ("sun-GM", "132_712_442_099", "132_712_443_099"),
+    ("sun-GM-last-digit", "132_712_442_099", "132_712_442_098", "K0 of the Sun, the only number made of it, rounds to the same grain"),
+    ("earth-GM", "398_600_441_800_000", "398_600_442_800_000"),
+    ("K0-cut", *cut("value.numerator", "value.denominator")),
+    ("distance-nearest", "root(sum(v * v for v in vector))", "near(root(4 * sum(v * v for v in vector)), 2)"),
+    ("range-by-squares", "least <= distance(vector) <= most", "least**2 <= sum(v * v for v in vector) <= most**2"),
+    ("11-before-10", *swap(NAN, LONG)),
+    ("moon-11-before-sun-10", NAN, MOON_FIRST + NAN),
+    ("sun-11-before-moon-10", NAN, MOON_FIRST.replace("moon", "sun").replace("MOON", "SUN") + NAN),
+    ("two-moons", "{first[0], second[0]} != {MOON, SUN}", "first[0] == second[0] == SUN"),
+    ("bodies-as-they-come", "if first[0] == MOON else (0, second[1], first[1])", "if first[0] >= MOON else (0, second[1], first[1])"),
+)
+
+SOLID = (
+    ("q-cut", *cut("R0[label] * E", "r")),
+    ("q2-cut", *cut("q * q", "E")),
+    ("q3-cut", *cut("q2 * q", "E")),
+    ("K-cut", *cut("K0[label] * q3", "E")),
+    ("direction-cut", *cut("v * E", "r")),
+    ("c-half-to-zero", *half_to_zero("sum(a * b for a, b in zip(u, d))", "E")),
+    ("c2-cut", *cut("c * c", "E")),
+    ("p-half-to-zero", *half_to_zero("3 * near(c * c, E) - E", "2")),
+    ("p-half-up", *half_up("3 * near(c * c, E) - E", "2")),
+    ("h-digit", "6_078", "6_079"),
+    ("l-digit", "847 *", "848 *"),
+    ("H-half-to-zero", *half_to_zero("6_078 * k", "10_000")),
+    ("H-not-rounded", "near(near(6_078 * k, 10_000) * p, E)", "near(6_078 * k * p, 10_000 * E)"),
+    ("S-half-to-zero", *half_to_zero("847 * k", "10_000")),
+    ("rho-half-to-zero", *half_to_zero("near(6_078 * k, 10_000) * p", "E")),
+    ("t-half-to-zero", *half_to_zero("near(847 * k, 10_000) * c", "E")),
+    ("t-three-inside", "3 * near(near(847 * k, 10_000) * c, E)", "near(3 * near(847 * k, 10_000) * c, E)"),
+    ("along-half-to-zero", *half_to_zero("c * u[i]", "E")),
+    ("part-half-to-zero", *half_to_zero("rho * u[i] + t * (d[i] - near(c * u[i], E))", "E")),
+    ("radial-along-body", "rho * u[i]", "rho * d[i]"),
+    ("sun-as-moon", "part(mark, SUN, sun)", "part(mark, MOON, sun)"),
+    ("10-before-17", "    return (number, ZERO) if number else ordered_tide",
+     "    if number and judge(first[1], second[1])[0] == 10:\n        number = 10\n    return (number, ZERO) if number else ordered_tide"),
+)
+
+MARK_TEST = "    if not good_mark(mark):\n        return 6, 0, numbers\n    rows = len(doubles) // 6\n"
+FIT = "    if len(doubles) != 6 * rows or len(numbers) != 3 * rows:\n        return 16, 0, numbers\n"
+BAD_ROW = "    for row in range(rows):\n        number = ordered_tide(mark, doubles[6 * row:6 * row + 3], doubles[6 * row + 3:6 * row + 6])[0]\n"
+
+SERIES = (
+    ("16-before-6", MARK_TEST + FIT, "    rows = len(doubles) // 6\n" + FIT + MARK_TEST),
+    ("bad-row-before-16", FIT, BAD_ROW + "        if number:\n            return number, row, numbers\n" + FIT),
+    ("10-of-a-later-row", FIT, FIT + BAD_ROW + "        if number == 10:\n            return number, row, numbers\n"),
+    ("series-short-run", "len(numbers) != 3 * rows", "len(numbers) < 3 * rows"),
+    ("series-odd-doubles", "len(doubles) != 6 * rows or ", ""),
+    ("series-none-refused", "len(doubles) != 6 * rows or", "rows == 0 or len(doubles) != 6 * rows or"),
+    ("series-sun-first", "six[:3], six[3:]", "six[3:], six[:3]"),
+    ("bad-row-from-1", "return number, row, numbers", "return number, row + 1, numbers"),
+    ("bad-row-writes", "return number, row, numbers", "return number, row, found + numbers[len(found):]"),
+    ("rows-beside-16", "return 16, 0, numbers", "return 16, rows, numbers"),
+)
