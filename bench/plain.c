@@ -231,13 +231,13 @@ uint32_t plain_mean_on(const uint8_t *card, size_t n, uint8_t *out, size_t m) { 
 
 uint32_t plain_mean_off(const uint8_t *card, size_t n, uint8_t *out, size_t m) { return mean(card, n, 1, -1, out, m); }
 
-/* A body: its range and reference distance in its own unit, and K0 in grains. */
+/* A body: its range and reference distance in its own unit, and K0 of degree two and of three in grains. The Sun has no degree three. */
 struct kind {
-    int64_t low, high, r0, k0;
+    int64_t low, high, r0, k0, k0_3;
 };
 
-static const struct kind moon = {350000000, 410000000, 384400000, 523578453};
-static const struct kind sun = {146000000, 153000000, 149597870, 240449078};
+static const struct kind moon = {350000000, 410000000, 384400000, 523578453, 8687448};
+static const struct kind sun = {146000000, 153000000, 149597870, 240449078, 0};
 
 static inline int finite3(const double *v) { return isfinite(v[0]) && isfinite(v[1]) && isfinite(v[2]); }
 
@@ -253,13 +253,21 @@ static inline int64_t seen(const struct kind *k, const double *v, int64_t at[3])
 
 static inline void add_part(const struct kind *k, const int64_t u[3], const int64_t at[3], int64_t r, int64_t shift[3])
 {
-    int64_t q = near(k->r0 * E, r), strength = times(k->k0, times(times(q, q), q));
-    int64_t d[3];
+    int64_t q = near(k->r0 * E, r), q3 = times(times(q, q), q), strength = times(k->k0, q3);
+    int64_t d[3], across[3];
     units(at, r, d);
-    int64_t c = near(u[0] * d[0] + u[1] * d[1] + u[2] * d[2], E);
-    int64_t rho = times(near(6078 * strength, 10000), legendre(times(c, c)));
+    int64_t c = near(u[0] * d[0] + u[1] * d[1] + u[2] * d[2], E), c2 = times(c, c);
+    int64_t rho = times(near(6078 * strength, 10000), legendre(c2));
     int64_t t = 3 * times(near(847 * strength, 10000), c);
-    for (int i = 0; i < 3; i++) shift[i] += near(rho * u[i] + t * (d[i] - times(c, u[i])), E);
+    for (int i = 0; i < 3; i++) {
+        across[i] = d[i] - times(c, u[i]);
+        shift[i] += near(rho * u[i] + t * across[i], E);
+    }
+    if (!k->k0_3) return;
+    strength = times(k->k0_3, times(q3, q));
+    rho = times(near(292 * strength, 1000), near(5 * times(c2, c) - 3 * c, 2));
+    t = times(near(15 * strength, 1000), near(15 * c2 - 3 * E, 2));
+    for (int i = 0; i < 3; i++) shift[i] += near(rho * u[i] + t * across[i], E);
 }
 
 /* 10, 11, or 0 and the tide. */

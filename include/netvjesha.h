@@ -54,7 +54,8 @@ uint32_t nv_mean_on(const uint8_t *card, size_t card_len, uint8_t *out, size_t o
  * Status, its own: 12, 8. */
 uint32_t nv_mean_off(const uint8_t *card, size_t card_len, uint8_t *out, size_t out_len);
 
-/* Adds the solid tide of a Moon and a Sun, in either order, in grains, and stores it in the card.
+/* Adds the solid tide of a Moon and a Sun, in either order, in grains, and stores it in the card: degree two of both, degree
+ * three of the Moon.
  * A body is a label and three doubles: NV_MOON in metres, NV_SUN in kilometres. Any other label is no body: 17.
  * Status, its own: 12, 17, 10, 11, 8. */
 uint32_t nv_solid_on(const uint8_t *card, size_t card_len,
@@ -62,7 +63,7 @@ uint32_t nv_solid_on(const uint8_t *card, size_t card_len,
                      uint8_t label_b, double bx, double by, double bz,
                      uint8_t *out, size_t out_len);
 
-/* Takes the stored solid tide away, in grains.
+/* Takes the stored solid tide away, in grains, as it is stored.
  * Status, its own: 12, 8. */
 uint32_t nv_solid_off(const uint8_t *card, size_t card_len, uint8_t *out, size_t out_len);
 
@@ -100,8 +101,8 @@ uint32_t nv_metres(const uint8_t *card, size_t card_len, double *out, size_t out
  * Status: 1 out_len is not 3; then 6. */
 uint32_t nv_permanent(int64_t x, int64_t y, int64_t z, int64_t *out, size_t out_len);
 
-/* The solid tides at a mark of whole metres, row by row. `bodies` has n doubles, six to a row: Moon in metres, Sun in
- * kilometres. `out` has m numbers, three to a row, grains.
+/* The solid tides at a mark of whole metres, row by row, as nv_solid_on stores them. `bodies` has n doubles, six to a row:
+ * Moon in metres, Sun in kilometres. `out` has m numbers, three to a row, grains.
  * Answers the status + 256 x (the number of rows, or the first bad row, counted from 0, with 10 or 11; 0 with 6 or 16).
  * Status: 6; then 16 unless n is 6 and m is 3 to each of one count of rows; then 10 or 11 of the first bad row. */
 uint64_t nv_series(int64_t x, int64_t y, int64_t z, const double *bodies, size_t n, int64_t *out, size_t m);

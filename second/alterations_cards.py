@@ -1,6 +1,6 @@
 """The altered versions of the card, its records, its calls and the catalogue, for second/altered.py; alterations.py says what a row is."""
 
-from alterations import half_to_zero, half_up, swap
+from alterations import half_to_zero, half_up, less_third, swap
 
 
 def tests(*conditions):
@@ -95,6 +95,10 @@ MEAN_ON, MEAN_OFF = (f"def mean_{w}(card):\n    number = check(card) or (12 if c
 SOLID_OFF = MEAN_OFF.replace("mean", "solid").replace("MEAN", "SOLID")
 
 
+PUT_ON = "    return settled(card, card._replace(\n        tide=SOLID, position=plus(card.position, tide), vector=tide))\n"
+LESS_THIRD = less_third("    ", "card.mark", "*solid.order_pair(first, second)[1:]")
+
+
 def eight_first(call, position):
     """The call with its last check, 8, before 12."""
     return call, call.replace("check(card) or ", f"check(card) or (0 if good_position(card._replace(position={position})) else 8) or ")
@@ -134,6 +138,9 @@ CALLS = (
     ("solid-on-8-before-12", *eight_first(SOLID_12, "plus(card.position, pair_tide(card.mark, first, second)[1])")),
     ("solid-on-from-position", "pair_tide(card.mark, first", f"pair_tide({MOVED}, first"),
     ("solid-on-not-stored", "position=plus(card.position, tide), vector=tide", "position=plus(card.position, tide)"),
+    ("solid-on-without-third", PUT_ON, LESS_THIRD + PUT_ON),
+    ("solid-on-third-not-stored", PUT_ON, "    whole = tide\n" + LESS_THIRD + PUT_ON.replace("position, tide", "position, whole")),
+    ("solid-on-third-not-added", PUT_ON, "    whole = tide\n" + LESS_THIRD + PUT_ON.replace("vector=tide", "vector=whole")),
     ("solid-on-zero-tide-off", "tide=SOLID, position", "tide=SOLID if any(tide) else FREE, position"),
     ("solid-off-any", SOLID_OFF, SOLID_OFF.replace("!= SOLID", "== FREE")),
     ("solid-off-no-vector-refused", SOLID_OFF, SOLID_OFF.replace("card.tide != SOLID", "card.vector == ZERO")),

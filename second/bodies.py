@@ -22,17 +22,18 @@ GM_RATIO = {
 }
 
 
-def exact_k0(label):
-    """(GM ratio) Re^4 / R0^3 in grains, not rounded."""
-    return GM_RATIO[label] * RE**4 / (R0[label] * UNIT[label])**3 * METRE
+def exact_k0(label, degree):
+    """(GM ratio) Re^(degree + 2) / R0^(degree + 1) in grains, not rounded."""
+    return GM_RATIO[label] * RE**(degree + 2) / (R0[label] * UNIT[label])**(degree + 1) * METRE
 
 
-def rounded_k0(label):
-    value = exact_k0(label)
+def rounded_k0(label, degree):
+    value = exact_k0(label, degree)
     return near(value.numerator, value.denominator)
 
 
-K0 = {MOON: rounded_k0(MOON), SUN: rounded_k0(SUN)}
+K0 = {MOON: rounded_k0(MOON, 2), SUN: rounded_k0(SUN, 2)}
+K0_3 = rounded_k0(MOON, 3)  # the Moon alone has a third degree
 
 
 def distance(vector):

@@ -82,7 +82,9 @@ def case_11(t):
 
 
 def case_12(t):
-    wanted = near(6_078 * bodies.K0[bodies.MOON], 10_000)
+    t.same("K0 of degree three", bodies.K0_3, 8_687_448)
+    wanted = near(6_078 * bodies.K0[bodies.MOON], 10_000) + near(292 * bodies.K0_3, 1_000)
+    t.same("both degrees overhead", wanted, 320_767_719)
     t.same("part", part(EQUATOR, bodies.MOON, (384_400_000, 0, 0)), (wanted, 0, 0))
 
 

@@ -9,7 +9,8 @@ from bodies import GM_RATIO, MOON, RE, SUN, UNIT, distance
 from mark import length
 from units import METRE
 
-H, L2 = Fraction(6_078, 10_000), Fraction(847, 10_000)
+H2, L2 = Fraction(6_078, 10_000), Fraction(847, 10_000)
+H3, L3 = Fraction(292, 1_000), Fraction(15, 1_000)
 
 
 def direction(vector, size):
@@ -39,15 +40,33 @@ def factor(label, r):
     return GM_RATIO[label] * RE**4 / (r * UNIT[label])**3
 
 
-def part(mark, label, vector):
-    """Formula (5) for one body."""
+def stand(mark, vector):
+    """R, the unit vectors to mark and body, and the cosine of the angle between them."""
     r = distance(vector)
     u, d = direction(mark, length(mark)), direction(vector, r)
+    return r, u, d, dot(u, d)
+
+
+def displaced(k, u, d, radial, across):
+    """k metres, as grains: times radial along u, and across along d less its part along u."""
     c = dot(u, d)
-    k = METRE * factor(label, r)
-    radial, across = H * (3 * c**2 - 1) / 2, 3 * L2 * c
-    return tuple(k * (radial * u[i] + across * (d[i] - c * u[i])) for i in range(3))
+    return tuple(METRE * k * (radial * u[i] + across * (d[i] - c * u[i])) for i in range(3))
+
+
+def degree_two(mark, label, vector):
+    """Formula (5) for one body."""
+    r, u, d, c = stand(mark, vector)
+    return displaced(factor(label, r), u, d, H2 * (3 * c**2 - 1) / 2, 3 * L2 * c)
+
+
+def degree_three(mark, moon):
+    """Formula (6) for the Moon; k is (Moon ratio) Re^5 / R^4 in metres."""
+    r, u, d, c = stand(mark, moon)
+    k = GM_RATIO[MOON] * RE**5 / Fraction(r)**4
+    return displaced(k, u, d, H3 * (5 * c**3 - 3 * c) / 2, L3 * (15 * c**2 - 3) / 2)
 
 
 def tide(mark, moon, sun):
-    return tuple(a + b for a, b in zip(part(mark, MOON, moon), part(mark, SUN, sun)))
+    """Degree two of both bodies and degree three of the Moon."""
+    parts = degree_two(mark, MOON, moon), degree_three(mark, moon), degree_two(mark, SUN, sun)
+    return tuple(sum(axis) for axis in zip(*parts))

@@ -23,7 +23,7 @@ from units import ZERO
 AXIS = (6_378_137, 0, 0)             # the mark of case 2, metres
 SIXTY = (3_189_068, 0, 5_523_628)    # a mark with half of L in x
 # A Moon (metres) and a Sun (kilometres) whose parts at AXIS cancel in every grain: one stands low where the other stands high, on opposite sides.
-LOW_MOON, HIGH_SUN = (99_632_972, 396_679_066, 0), (130_911_065, -65_761_268, 0)
+LOW_MOON, HIGH_SUN = (100_454_458, 396_874_155, 0), (130_911_064, -65_761_268, 0)
 
 
 def half_marks():
@@ -54,7 +54,7 @@ def pair(moon, sun):
 
 
 def half_steps():
-    """Marks and Moons (metres) with a half in one step of the Moon's part, and the step."""
+    """Marks and Moons (metres) with a half in one step of the Moon's degree two, and the step."""
     yield AXIS, (384_403_904, 0, 0), "H"
     yield AXIS, (270_001_628, 270_000_000, 0), "S"
     yield AXIS, (0, 384_400_001, 0), "rho: c is 0, and H is odd"

@@ -1,4 +1,6 @@
-"""Parts of Step 1 of Chapter 7 (source 000) that our degree two leaves out, metres.
+"""Parts of Step 1 of Chapter 7 (source 000) beside degree two, metres.
+
+Our solid tide leaves them out, but for the Moon's third degree.
 
 Exact fractions. Unit vectors are the vectors over their whole lengths. North
 and east are irrational by themselves, but every product below is rational:
@@ -52,7 +54,7 @@ class Place:
 
 
 def degree_three(p):
-    """Formula (6)."""
+    """Formula (6), of either body."""
     k = p.k * p.per_r
     return p.mix(k * H3 * (Fraction(5, 2) * p.c**3 - Fraction(3, 2) * p.c),
                  k * L3 * (Fraction(15, 2) * p.c**2 - Fraction(3, 2)))

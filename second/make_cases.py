@@ -49,7 +49,8 @@ use Rattle.algebra.specs.Fraction.{Fraction, whole, ratio, wholly, _+ᶠ_, _-�
 use Rattle.numbers.proofs.RootLaws.{root-same}
 use Rattle.mark.specs.declared.Vec3.{Vec3}
 use Rattle.mark.specs.Mark.{vec, squares, lengthOf}
-use Rattle.laws.specs.Formulas.{Vector, dot, P2, radial, north, Re, strengthAt, h2, l2, permanentFormula, solidFormula}
+use Rattle.laws.specs.Formulas.{Vector, dot, P2, P3, slope3, radial, north, Re, strengthAt, strengthThreeAt, h2, l2, h3, l3}
+use Rattle.laws.specs.Formulas.{permanentFormula, solidFormula}
 
 -- ---- the inputs
 """)
@@ -85,7 +86,7 @@ billionths X = down ((pos (10 ^ 9) ·ᶠ X) .num) (X .den)
 
 -- with all that the formulas are made of open
 unfoldable pub floors : Vector → Vec3
-unfolding down billionths dot P2 radial north Re strengthAt h2 l2 whole ratio wholly _+ᶠ_ _-ᶠ_ _*ᶠ_ _·ᶠ_ _/ᶠ_ _÷ᶠ_
+unfolding down billionths dot P2 P3 slope3 radial north Re strengthAt strengthThreeAt h2 l2 h3 l3 whole ratio wholly _+ᶠ_ _-ᶠ_ _*ᶠ_ _·ᶠ_ _/ᶠ_ _÷ᶠ_
 floors v = vec (billionths (v .x)) (billionths (v .y)) (billionths (v .z))
 
 -- ---- the permanent displacement
@@ -98,7 +99,7 @@ for name, m, v, w in CASES:
 unfolding floors
 permanent-{name} = refl
 """)
-p("-- ---- the tide of degree two\n")
+p("-- ---- the solid tide: degree two of both bodies, degree three of the Moon\n")
 for name, m, v, w in CASES:
     assert bodies.in_range(bodies.MOON, v) and bodies.in_range(bodies.SUN, w)
     L, R, S = mark.length(m), bodies.distance(v), bodies.distance(w)

@@ -1,8 +1,8 @@
 """The published values of the IERS routine DEHANTTIDEINEL, after conversion.
 
-The published displacement minus what degree two leaves out must agree with our
-solid tide within 150 grains (0.1 micrometre): the mark is rounded to whole
-metres, body vectors to whole metres and kilometres.
+The published displacement minus what our solid tide leaves out must agree with it
+within 150 grains (0.1 micrometre): the mark is rounded to whole metres, body
+vectors to whole metres and kilometres.
 """
 
 import sys
@@ -10,7 +10,7 @@ from fractions import Fraction
 
 import leftout
 from bodies import MOON, SUN, judge
-from exact import dot
+from exact import degree_three, dot
 from frequency import step_two
 from metres import quotient_bits
 from rounding import near, root
@@ -24,7 +24,7 @@ STATION = ("4075578.385", "931852.890", "4801570.154")                      # m
 SUN_M = ("137859926952.015", "54228127881.4350", "23509422341.6960")        # m
 MOON_M = ("-179996231.920342", "-312468450.131567", "-169288918.592160")    # m
 PUBLISHED = ("0.07700420357108126", "0.06304056321824968", "0.05516568152597247")
-LEFT_OUT = ("0.004861565556554481", "0.0014014819076995644", "0.005716312701019473")
+BESIDE_TWO = ("0.004861565556554481", "0.0014014819076995644", "0.005716312701019473")
 
 # The routine's date for this case: 13 April 2009, 0 h UT, as days from 2000.0 noon.
 DAYS, TT_MINUS_UT = Fraction("3389.5"), "66.184"
@@ -53,13 +53,35 @@ def rounded(values):
     return tuple(near(v.numerator, v.denominator) for v in values)
 
 
+def whole_case():
+    """The mark, and the Moon and the Sun as whole vectors."""
+    moon, sun = entries(MOON_M, SUN_M)
+    return rounded(exactly(STATION)), *judge(moon[1], sun[1])[1:]
+
+
+def moons_third():
+    """The third degree of the Moon, metres."""
+    mark, moon, _ = whole_case()
+    return leftout.degree_three(leftout.Place(mark, MOON, moon))
+
+
+def left_out():
+    """Of the published displacement what our solid tide is without, metres.
+
+    BESIDE_TWO is all of it but degree two; the Moon's third degree is ours too.
+    """
+    return tuple(p - q for p, q in zip(exactly(BESIDE_TWO), moons_third()))
+
+
 def tide_case(t):
-    mark = rounded(exactly(STATION))
+    mark, whole_moon, _ = whole_case()
     moon, sun = entries(MOON_M, SUN_M)
     number, got = pair_tide(mark, moon, sun)
     t.same("accepted", number, 0)
     t.same("either order", pair_tide(mark, sun, moon), (number, got))
-    wanted = [(p - q) * METRE for p, q in zip(exactly(PUBLISHED), exactly(LEFT_OUT))]
+    t.same("third degree, written twice", degree_three(mark, whole_moon),
+           tuple(v * METRE for v in moons_third()))
+    wanted = [(p - q) * METRE for p, q in zip(exactly(PUBLISHED), left_out())]
     gaps = [a - b for a, b in zip(got, wanted)]
     print("grains off the published values:", *(near(g.numerator, g.denominator) for g in gaps))
     for axis, gap in zip("xyz", gaps):
@@ -79,22 +101,20 @@ def share(vector, whole):
 
 def shares(t):
     """Prints the parts recomputed from Chapter 7, micrometres."""
-    whole = exactly(LEFT_OUT)
-    mark = rounded(exactly(STATION))
-    _, moon, sun = judge(entries(MOON_M, SUN_M)[0][1], entries(MOON_M, SUN_M)[1][1])
+    whole = left_out()
+    mark, moon, sun = whole_case()
+    print("the Moon's third degree, ours, micrometres:", micrometres(moons_third()))
     print("left out in all, micrometres:", micrometres(whole))
-    found = []
-    for name, part in (("third degree", leftout.degree_three),
-                       ("latitude of h and l", leftout.latitude),
-                       ("l(1)", leftout.l_one),
-                       ("out of phase", leftout.out_of_phase)):
-        vector = leftout.both(part, mark, moon, sun)
-        found.append(vector)
+    found = {
+        "third degree of the Sun": leftout.degree_three(leftout.Place(mark, SUN, sun)),
+        "latitude of h and l": leftout.both(leftout.latitude, mark, moon, sun),
+        "l(1)": leftout.both(leftout.l_one, mark, moon, sun),
+        "out of phase": leftout.both(leftout.out_of_phase, mark, moon, sun),
+        "Step 2, tables of 000": step_two(leftout.Place(mark, MOON, moon), DAYS, TT_MINUS_UT),
+    }
+    total = found["together"] = leftout.add(*found.values())
+    for name, vector in found.items():
         print(f"{name}: {micrometres(vector)}, share {share(vector, whole)}")
-    found.append(step_two(leftout.Place(mark, MOON, moon), DAYS, TT_MINUS_UT))
-    print(f"Step 2, tables of 000: {micrometres(found[-1])}, share {share(found[-1], whole)}")
-    total = leftout.add(*found)
-    print(f"together: {micrometres(total)}, share {share(total, whole)}")
     t.true("within 0.1 mm of what was left out",
            max(abs(a - b) for a, b in zip(total, whole)) <= Fraction(1, 10_000))
 

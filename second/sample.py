@@ -4,7 +4,7 @@ from bodies import MOON, RANGE, SUN, distance
 from card import (EPOCH_MOST, POSITION_MOST, SOLID, TIDE_MOST, VELOCITY_MOST, Card,
                   check)
 from mark import L_LEAST, L_MOST, length
-from rounding import root
+from rounding import near, root
 from units import METRE, ZERO, plus, times
 
 
@@ -22,6 +22,23 @@ def of_length(rng, least, most, size):
         vector = tuple(v * wanted // norm for v in raw)
         if least <= size(vector) <= most:
             return vector
+
+
+def along(direction, size):
+    """A whole vector in that direction whose whole length is size."""
+    norm = root(sum(v * v for v in direction) << 80)
+    vector = [near((v << 40) * size, norm) for v in direction]
+    most = max(range(3), key=lambda i: abs(vector[i]))
+    step = 1 if vector[most] > 0 else -1
+    while distance(vector) != size:
+        vector[most] += step if distance(vector) < size else -step
+    return tuple(vector)
+
+
+def across(vector):
+    """A vector at right angles to one that is not zero."""
+    x, y, z = vector
+    return (-y, x, 0) if x or y else (z, 0, 0)
 
 
 def mark(rng):

@@ -1,33 +1,69 @@
-"""The degree-two solid tide of one body and of a pair, grains.
+"""The solid tide of one body and of a pair, grains.
 
-Formula (5) of Chapter 7 (source 000) with h = 0.6078 and l = 0.0847.
+Degree two of both bodies is formula (5) of Chapter 7 (source 000) with h = 0.6078
+and l = 0.0847, degree three of the Moon formula (6) with h = 0.292 and l = 0.015.
 """
 
-from bodies import K0, MOON, R0, SUN, distance, judge, order_pair
+from typing import NamedTuple
+
+from bodies import K0, K0_3, MOON, R0, SUN, distance, judge, order_pair
 from mark import unit
 from rounding import E, near
 from units import ZERO, plus
 
 
-def strength(label, r):
-    """K: K0 scaled by the cube of R0 / R."""
+class Stand(NamedTuple):
+    """How a body stands to a mark, all scaled by E: what both degrees start from."""
+    u: tuple  # to the mark
+    d: tuple  # to the body
+    c: int    # cosine of the angle between them
+    c2: int   # its square
+    q: int    # R0 / R
+    q3: int   # its cube
+
+
+def stand(mark, label, vector):
+    """For a whole body vector, in the body's unit."""
+    u = unit(mark)
+    r = distance(vector)
+    d = tuple(near(v * E, r) for v in vector)
+    c = near(sum(a * b for a, b in zip(u, d)), E)
     q = near(R0[label] * E, r)
     q2 = near(q * q, E)
-    q3 = near(q2 * q, E)
-    return near(K0[label] * q3, E)
+    return Stand(u, d, c, near(c * c, E), q, near(q2 * q, E))
+
+
+def degree_two(label, s):
+    """(rho, t) of formula (5), grains: along the mark, and across it towards the body."""
+    k = near(K0[label] * s.q3, E)
+    p = near(3 * s.c2 - E, 2)
+    rho = near(near(6_078 * k, 10_000) * p, E)
+    t = 3 * near(near(847 * k, 10_000) * s.c, E)
+    return rho, t
+
+
+def degree_three(s):
+    """(rho, t) of formula (6), for the Moon; no 3 stands before t here."""
+    q4 = near(s.q3 * s.q, E)
+    k = near(K0_3 * q4, E)
+    c3 = near(s.c2 * s.c, E)
+    p = near(5 * c3 - 3 * s.c, 2)
+    v = near(15 * s.c2 - 3 * E, 2)
+    rho = near(near(292 * k, 1_000) * p, E)
+    t = near(near(15 * k, 1_000) * v, E)
+    return rho, t
+
+
+def displaced(s, rho, t):
+    """rho along the mark, t along the body less its part along the mark; rounded once."""
+    return tuple(near(rho * s.u[i] + t * (s.d[i] - near(s.c * s.u[i], E)), E) for i in range(3))
 
 
 def part(mark, label, vector):
-    """One body's displacement at a mark, for a whole body vector."""
-    u = unit(mark)
-    r = distance(vector)
-    k = strength(label, r)
-    d = [near(v * E, r) for v in vector]
-    c = near(sum(a * b for a, b in zip(u, d)), E)
-    p = near(3 * near(c * c, E) - E, 2)
-    rho = near(near(6_078 * k, 10_000) * p, E)
-    t = 3 * near(near(847 * k, 10_000) * c, E)
-    return tuple(near(rho * u[i] + t * (d[i] - near(c * u[i], E)), E) for i in range(3))
+    """One body's displacement at a mark: each degree is rounded by itself, then added."""
+    s = stand(mark, label, vector)
+    two = displaced(s, *degree_two(label, s))
+    return plus(two, displaced(s, *degree_three(s))) if label == MOON else two
 
 
 def tide(mark, moon, sun):

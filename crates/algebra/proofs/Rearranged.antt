@@ -114,6 +114,18 @@ module _ (n r0 : ℕ) (p : 0 < r0) (R : Positive) where
       (≈-trans (mul-≈ (nearer₂ (G ÷ᶠ D)) keep)
       (nearer₃ G))))
 
+  nearer₄ : (X : Fraction) → X ÷ᶠ reference ÷ᶠ distance ÷ᶠ distance ÷ᶠ distance *ᶠ nearness ≈ X ÷ᶠ distance ÷ᶠ distance ÷ᶠ distance ÷ᶠ distance
+  nearer₄ X = ≈-trans (by-mul (X ÷ᶠ reference ÷ᶠ distance ÷ᶠ distance) nearness distance) (by-≈ distance (nearer₃ X))
+
+  -- and the fourth, times (r0/R)⁴
+  pub fourths-same :
+      (G : Fraction)
+      → G ÷ᶠ reference ÷ᶠ reference ÷ᶠ reference ÷ᶠ reference *ᶠ (nearness *ᶠ nearness *ᶠ nearness *ᶠ nearness) ≈ G ÷ᶠ distance ÷ᶠ distance ÷ᶠ distance ÷ᶠ distance
+  fourths-same G =
+      let q = nearness in
+      let D = reference in
+      ≈-trans (mul-assoc (G ÷ᶠ D ÷ᶠ D ÷ᶠ D ÷ᶠ D) (q *ᶠ q *ᶠ q) q) (≈-trans (mul-≈ (cubes-same (G ÷ᶠ D)) (≈-refl q)) (nearer₄ G))
+
 inner : (K h P : Fraction) → h *ᶠ K *ᶠ P ≈ K *ᶠ (h *ᶠ P)
 unfolding _*ᶠ_
 inner K h P =
@@ -134,3 +146,15 @@ part-same K h P u l c w =
     (≈-trans (mul-≈ (inner K h P) (≈-refl u)) (≈-sym (mul-assoc K (h *ᶠ P) u)))
     (≈-trans (mul-≈ (thrice K l c) (≈-refl w)) (≈-sym (mul-assoc K (pos 3 ·ᶠ (l *ᶠ c)) w))))
     (≈-sym (mul-plus K (h *ᶠ P *ᶠ u) (pos 3 ·ᶠ (l *ᶠ c) *ᶠ w)))
+
+-- a u + b w, of which a and b have the factor K
+factored : (K a b A B u w : Fraction) → a ≈ K *ᶠ A → b ≈ K *ᶠ B → a *ᶠ u +ᶠ b *ᶠ w ≈ K *ᶠ (A *ᶠ u +ᶠ B *ᶠ w)
+factored K a b A B u w e f =
+    let by : (X Y v : Fraction) → X ≈ K *ᶠ Y → X *ᶠ v ≈ K *ᶠ (Y *ᶠ v) = λ X Y v h. ≈-trans (mul-≈ h (≈-refl v)) (≈-sym (mul-assoc K Y v)) in
+    ≈-trans (plus-≈ (by a A u e) (by b B w f)) (≈-sym (mul-plus K (A *ᶠ u) (B *ᶠ w)))
+
+-- rho u + t w, with rho = h K P, t = l K v, and w for d - c u
+pub third-same :
+    (K h P u l v w : Fraction)
+    → h *ᶠ K *ᶠ P *ᶠ u +ᶠ l *ᶠ K *ᶠ v *ᶠ w ≈ K *ᶠ (h *ᶠ P *ᶠ u +ᶠ l *ᶠ v *ᶠ w)
+third-same K h P u l v w = factored K (h *ᶠ K *ᶠ P) (l *ᶠ K *ᶠ v) (h *ᶠ P) (l *ᶠ v) u w (inner K h P) (inner K l v)

@@ -36,31 +36,61 @@ pub record PermanentErrors (u : ℕ) : Type 0 where
   pub x-ok : rounded (product (a + 2 * w) 260000000 u E) E ≤ x
   pub z-ok : rounded (product (a + 2 * (0 + e) + 2 * w) 340000000 u E) E ≤ z
 
--- one body's tide, from the errors of u, d and q, for the Moon and for the Sun: the sizes are the Moon's, which are the larger. Those of q,
--- q2, q3 in units of 1/E; of K0 523,578,453, K 693,629,844, H 421,588,221, S 58,750,449, rho 421,590,000 and t 176,260,000 grains. K0 is off by
--- a half
-pub record BodyErrors (u d q : ℕ) : Type 0 where
+-- how a body stands, from the errors of u, d and q, for the Moon and for the Sun: the sizes are the Moon's, which are the larger. v is near(c u/E)
+pub record StandingErrors (u d q : ℕ) : Type 0 where
   pub q2 : ℕ
   pub q3 : ℕ
-  pub k : ℕ
   pub c : ℕ
   pub height : HeightErrors c
+  pub v : ℕ
+  pub q2-ok : rounded (product q 1179275307 q 1179275307) E ≤ q2
+  pub q3-ok : rounded (product q2 1295181225 q 1179275307) E ≤ q3
+  pub c-ok : rounded (product u E d E + product u E d E + product u E d E) E ≤ c
+  pub v-ok : rounded (product c (E + 182) u E) E ≤ v
+
+-- what a displacement comes to, with the errors and sizes of rho and t
+abbrev pub displacement : {u d q : ℕ} → StandingErrors u d q → ℕ → ℕ → ℕ → ℕ → ℕ
+displacement {u} {d} b rho up t side = rounded (product rho up u E + product t side (d + b .v) (2 * E + 183)) E
+
+-- degree two. The sizes, in grains: of K0 523,578,453, K 693,629,844, H 421,588,221, S 58,750,449, rho 421,590,000 and t 176,260,000. K0 is off by
+-- a half
+pub record TwoErrors {u d q : ℕ} (b : StandingErrors u d q) : Type 0 where
+  pub k : ℕ
   pub h : ℕ
   pub s : ℕ
   pub rho : ℕ
   pub t : ℕ
-  pub v : ℕ
   pub x : ℕ
-  pub q2-ok : rounded (product q 1179275307 q 1179275307) E ≤ q2
-  pub q3-ok : rounded (product q2 1295181225 q 1179275307) E ≤ q3
-  pub k-ok : rounded (product 500 523578453 q3 1422479040) E ≤ k
-  pub c-ok : rounded (product u E d E + product u E d E + product u E d E) E ≤ c
+  pub k-ok : rounded (product 500 523578453 (b .q3) 1422479040) E ≤ k
   pub h-ok : rounded (product 0 6078 k 693629844) 10000 ≤ h
   pub s-ok : rounded (product 0 847 k 693629844) 10000 ≤ s
-  pub rho-ok : rounded (product h 421588221 (height .p) (E + 548)) E ≤ rho
-  pub t-ok : rounded (product s 58750449 c (E + 182)) E ≤ t
-  pub v-ok : rounded (product c (E + 182) u E) E ≤ v
-  pub x-ok : rounded (product rho 421590000 u E + product (3 * t) 176260000 (d + v) (2 * E + 183)) E ≤ x
+  pub rho-ok : rounded (product h 421588221 (b .height .p) (E + 548)) E ≤ rho
+  pub t-ok : rounded (product s 58750449 (b .c) (E + 182)) E ≤ t
+  pub x-ok : displacement b rho 421590000 (3 * t) 176260000 ≤ x
+
+-- degree three of the Moon. The sizes, in grains: of K0₃ 8,687,448, K3 12,640,189, H 3,690,936, S 189,603, rho 14,763,750 and t 1,706,428; in units of
+-- 1/E: of q4 1,562,288,410, c3 E + 548, p 4 E + 1,644 and v, here `slope`, 9 E + 2,738. K0₃ is off by a half
+pub record ThreeErrors {u d q : ℕ} (b : StandingErrors u d q) : Type 0 where
+  pub q4 : ℕ
+  pub k : ℕ
+  pub c3 : ℕ
+  pub p : ℕ
+  pub slope : ℕ
+  pub h : ℕ
+  pub s : ℕ
+  pub rho : ℕ
+  pub t : ℕ
+  pub x : ℕ
+  pub q4-ok : rounded (product (b .q3) 1422479040 q 1179275307) E ≤ q4
+  pub k-ok : rounded (product 500 8687448 q4 1562288410) E ≤ k
+  pub c3-ok : rounded (product (b .height .s2) (E + 365) (b .c) (E + 182)) E ≤ c3
+  pub p-ok : rounded (5 * c3 + 3 * b .c) 2 ≤ p
+  pub slope-ok : rounded (15 * b .height .s2 + 0) 2 ≤ slope
+  pub h-ok : rounded (product 0 292 k 12640189) 1000 ≤ h
+  pub s-ok : rounded (product 0 15 k 12640189) 1000 ≤ s
+  pub rho-ok : rounded (product h 3690936 p (4 * E + 1644)) E ≤ rho
+  pub t-ok : rounded (product s 189603 slope (9 * E + 2738)) E ≤ t
+  pub x-ok : displacement b rho 14763750 t 1706428 ≤ x
 
 -- ---- at the whole distances: each component of a unit vector is off by a half
 
@@ -80,28 +110,60 @@ whole-permanent =
       z-ok = lit≤ tt;
     }
 
-unfoldable pub whole-body : BodyErrors 500 500 500
-whole-body =
+unfoldable pub whole-standing : StandingErrors 500 500 500
+whole-standing =
     record {
       q2 = 1600;
       q3 = 2900;
-      k = 2600;
       c = 3502;
       height = record { s2 = 7506; p = 11761; s2-ok = lit≤ tt; p-ok = lit≤ tt };
+      v = 4600;
+      q2-ok = lit≤ tt;
+      q3-ok = lit≤ tt;
+      c-ok = lit≤ tt;
+      v-ok = lit≤ tt;
+    }
+
+unfoldable pub whole-two : TwoErrors whole-standing
+unfolding whole-standing
+whole-two =
+    record {
+      k = 2600;
       h = 2100;
       s = 730;
       rho = 7300;
       t = 1500;
-      v = 4600;
       x = 20000;
-      q2-ok = lit≤ tt;
-      q3-ok = lit≤ tt;
       k-ok = lit≤ tt;
-      c-ok = lit≤ tt;
       h-ok = lit≤ tt;
       s-ok = lit≤ tt;
       rho-ok = lit≤ tt;
       t-ok = lit≤ tt;
-      v-ok = lit≤ tt;
+      x-ok = lit≤ tt;
+    }
+
+unfoldable pub whole-three : ThreeErrors whole-standing
+unfolding whole-standing
+whole-three =
+    record {
+      q4 = 4350;
+      k = 1270;
+      c3 = 11510;
+      p = 34530;
+      slope = 56800;
+      h = 880;
+      s = 520;
+      rho = 4150;
+      t = 5200;
+      x = 15100;
+      q4-ok = lit≤ tt;
+      k-ok = lit≤ tt;
+      c3-ok = lit≤ tt;
+      p-ok = lit≤ tt;
+      slope-ok = lit≤ tt;
+      h-ok = lit≤ tt;
+      s-ok = lit≤ tt;
+      rho-ok = lit≤ tt;
+      t-ok = lit≤ tt;
       x-ok = lit≤ tt;
     }

@@ -16,7 +16,7 @@ use Rattle.tides.specs.Permanent.{s2, small, radial, north, down, across, along
 use Rattle.tides.specs.declared.Body.{Body}
 use Rattle.tides.specs.declared.Body.the-variants.{Moon, Sun}
 use Rattle.tides.specs.Bodies.{wholes, finite, inReach, paired, moonOf, sunOf}
-use Rattle.tides.specs.Tide.{nearness, strength, cosine, height, upward, sideways, component, standing, degreeTwo, partOf, tideAt, tide}
+use Rattle.tides.specs.Tide.{nearness, cosine, standing, cube, component, displaced, strength, height, upward, sideways, degreeTwo, fourth, strengthThree, heightThree, slopeThree, upShareThree, sideShareThree, upwardThree, sidewaysThree, degreeThree, moonPart, sunPart, tideAt, tide}
 use Rattle.head.specs.State.{stateOf, withState, stateFits}
 use Rattle.head.specs.Head.{digit, shapeAt, shapeFrom, siteShape, epochFits}
 use Rattle.card.specs.declared.Card.{Card}
@@ -41,7 +41,7 @@ unfolding unit s2 legendre small radial north down across along permanentOf perm
 shifting = 0
 
 unfoldable tiding : ℕ
-unfolding ofBits wholeOf wholes finite inReach paired moonOf sunOf nearness strength cosine height upward sideways component standing degreeTwo partOf tideAt tide
+unfolding ofBits wholeOf wholes finite inReach paired moonOf sunOf nearness cosine standing cube component displaced strength height upward sideways degreeTwo fourth strengthThree heightThree slopeThree upShareThree sideShareThree upwardThree sidewaysThree degreeThree moonPart sunPart tideAt tide
 tiding = 0
 
 unfoldable computing : ℕ
@@ -87,10 +87,10 @@ abbrev laterIn : ℕ → ℕ → Vec3 → Vec3 → Vec3 → Card
 laterIn g byte v p t =
     record { site = example .site; frame = g; tide = byte; epoch = pos 1461; mark = example .mark; velocity = v; position = p; solid = t }
 
--- a year of 20,000 micrometres is 29,220,000 grains; ITRF2005 adds 5,837,351 + 300 x 1,461 in x; the tide is 245,158,509 in x
+-- a year of 20,000 micrometres is 29,220,000 grains; ITRF2005 adds 5,837,351 + 300 x 1,461 in x; the tide is 247,695,244 in x, 2,536,735 of it of degree three
 pub example-tided :
     run example untilTide
-    ≡ laterIn 1 2 (vec (pos 20300) (pos 0) (pos 0)) (vec (pos 9318458437654160) (negℤ (pos 1314900)) (negℤ (pos 6866700))) (vec (pos 245158509) (pos 0) (pos 0))
+    ≡ laterIn 1 2 (vec (pos 20300) (pos 0) (pos 0)) (vec (pos 9318458440190895) (negℤ (pos 1314900)) (negℤ (pos 6866700))) (vec (pos 247695244) (pos 0) (pos 0))
 unfolding run computing
 example-tided = refl
 
@@ -100,6 +100,18 @@ pub example-run :
     ≡ laterIn 2 0 (vec (pos 20610) (pos 100) (negℤ (pos 1800))) (vec (pos 9318458196822044) (negℤ (pos 2337600)) (negℤ (pos 17970300))) nowhere
 unfolding run computing
 example-run = refl
+
+-- the card under the tide as it was stored before degree three, 245,158,509 in x: it keeps what it stores, and ends as the other
+abbrev pub older : Card
+older = laterIn 1 2 (vec (pos 20300) (pos 0) (pos 0)) (vec (pos 9318458437654160) (negℤ (pos 1314900)) (negℤ (pos 6866700))) (vec (pos 245158509) (pos 0) (pos 0))
+
+pub older-keeps : step older (frame 2) .card .solid ≡ older .solid
+unfolding computing
+older-keeps = refl
+
+pub older-run : run older afterTide ≡ run example calls
+unfolding run computing
+older-run = refl
 
 -- ---- a list that a card and its field edition accept in full, and how far apart they end
 

@@ -10,7 +10,8 @@ use Rattle.algebra.specs.Fraction.{Fraction, whole, ratio, wholly, _+ᶠ_, _-�
 use Rattle.numbers.proofs.RootLaws.{root-same}
 use Rattle.mark.specs.declared.Vec3.{Vec3}
 use Rattle.mark.specs.Mark.{vec, squares, lengthOf}
-use Rattle.laws.specs.Formulas.{Vector, dot, P2, radial, north, Re, strengthAt, h2, l2, permanentFormula, solidFormula}
+use Rattle.laws.specs.Formulas.{Vector, dot, P2, P3, slope3, radial, north, Re, strengthAt, strengthThreeAt, h2, l2, h3, l3}
+use Rattle.laws.specs.Formulas.{permanentFormula, solidFormula}
 
 -- ---- the inputs
 
@@ -125,7 +126,7 @@ billionths X = down ((pos (10 ^ 9) ·ᶠ X) .num) (X .den)
 
 -- with all that the formulas are made of open
 unfoldable pub floors : Vector → Vec3
-unfolding down billionths dot P2 radial north Re strengthAt h2 l2 whole ratio wholly _+ᶠ_ _-ᶠ_ _*ᶠ_ _·ᶠ_ _/ᶠ_ _÷ᶠ_
+unfolding down billionths dot P2 P3 slope3 radial north Re strengthAt strengthThreeAt h2 l2 h3 l3 whole ratio wholly _+ᶠ_ _-ᶠ_ _*ᶠ_ _·ᶠ_ _/ᶠ_ _÷ᶠ_
 floors v = vec (billionths (v .x)) (billionths (v .y)) (billionths (v .z))
 
 -- ---- the permanent displacement
@@ -160,34 +161,34 @@ pub permanent-south :
 unfolding floors
 permanent-south = refl
 
--- ---- the tide of degree two
+-- ---- the solid tide: degree two of both bodies, degree three of the Moon
 
 pub solid-equator :
     floors (solidFormula equator (wholly 6378137 (lit< tt)) equator-moon (wholly 384400000 (lit< tt)) equator-sun (wholly 149597870 (lit< tt)))
-    ≡ vec (pos 464375933153167479) (pos 0) (pos 0)
+    ≡ vec (pos 466912667878794926) (pos 0) (pos 0)
 unfolding floors
 solid-equator = refl
 
 pub solid-pole :
     floors (solidFormula pole (wholly 6356752 (lit< tt)) pole-moon (wholly 362491379 (lit< tt)) pole-sun (wholly 147309198 (lit< tt)))
-    ≡ vec (pos 23358133274346784) (negℤ (pos 35390280168565585)) (negℤ (pos 102989949266314740))
+    ≡ vec (pos 23371729731438876) (negℤ (pos 35407275739930700)) (negℤ (pos 104419377186843216))
 unfolding floors
 solid-pole = refl
 
 pub solid-east :
     floors (solidFormula east (wholly 6366612 (lit< tt)) east-moon (wholly 398364046 (lit< tt)) east-sun (wholly 149995807 (lit< tt)))
-    ≡ vec (pos 105400462318832819) (pos 90054726341418796) (pos 72245601900954125)
+    ≡ vec (pos 105595108917154873) (pos 89911693054898099) (pos 72504485220230200)
 unfolding floors
 solid-east = refl
 
 pub solid-west :
     floors (solidFormula west (wholly 6368503 (lit< tt)) west-moon (wholly 404888734 (lit< tt)) west-sun (wholly 152072442 (lit< tt)))
-    ≡ vec (negℤ (pos 30930166403174639)) (pos 92160734403061649) (negℤ (pos 118784131710482458))
+    ≡ vec (negℤ (pos 30967467226899780)) (pos 91777584460227595) (negℤ (pos 118581585588116947))
 unfolding floors
 solid-west = refl
 
 pub solid-south :
     floors (solidFormula south (wholly 6363961 (lit< tt)) south-moon (wholly 350000000 (lit< tt)) south-sun (wholly 146000000 (lit< tt)))
-    ≡ vec (pos 24106954797755596) (negℤ (pos 9144815753094588)) (negℤ (pos 45361073252003947))
+    ≡ vec (pos 23586932442200688) (negℤ (pos 7766756510874082)) (negℤ (pos 46104221058181631))
 unfolding floors
 solid-south = refl

@@ -5,6 +5,8 @@ pub mod StepValues
 pub mod NorthLaws
 pub mod PermanentBound
 pub mod BodyChain
+pub mod TwoChain
+pub mod ThreeChain
 pub mod SolidBound
 pub mod FormulaCases
 pub mod VectorLaws

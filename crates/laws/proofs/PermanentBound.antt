@@ -5,11 +5,11 @@
 use mathlib.Core.Path.{_≡_}
 use Prim.Native.Nat.{ℕ, _+_, _*_, _≤_}
 use native.Mathlib.Omega.{arith}
-use lib.Dec.{T, lit<, lit≤}
+use lib.Dec.{T, lit≤}
 use lib.IntN.{ℤ, pos, negℤ, _+ℤ_, _-ℤ_, _*ℤ_}
 use Rattle.algebra.specs.Fraction.{Fraction, whole, ratio, wholly, _+ᶠ_, _-ᶠ_, _*ᶠ_, _·ᶠ_}
 use Rattle.algebra.proofs.Difference.{split, ℤ⊖}
-use Rattle.algebra.proofs.Error.{Val, miss, nearV, mulV, timesV, plusV, minusV, weakV, isV, sameV}
+use Rattle.algebra.proofs.Error.{Val, miss, timesV, plusV, minusV, weakV, isV, sameV}
 use Rattle.algebra.proofs.Rearranged.{across-same, along-same}
 use Rattle.mark.specs.declared.Vec3.{Vec3}
 use Rattle.mark.specs.Mark.{lengthOf, marked}
@@ -19,7 +19,7 @@ use Rattle.tides.specs.Tide.{height}
 use Rattle.laws.specs.Formulas.{bound, Vector, Close, metre, direction, P2, permanentAt, permanentFormula}
 use Rattle.laws.proofs.Distances.{mark-positive}
 use Rattle.laws.proofs.ErrorTables.{PermanentErrors, whole-permanent}
-use Rattle.laws.proofs.StepValues.{Stands, times-half, square-is, height-is, grains-is, whole-stands}
+use Rattle.laws.proofs.StepValues.{Stands, times-is, square-is, height-is, grains-is, whole-stands}
 use Rattle.laws.specs.Formulas as Exact
 
 -- ---- the paper's constants
@@ -64,16 +64,11 @@ module _ {n : ℕ} (table : PermanentErrors n) (u : Vec3) (r : Vector) (u-is : S
 
   e-is : Val metre (small p) (ratio (pos 1) 10000 *ᶠ P) (table .e) 146101
   unfolding small
-  e-is = weakV (nearV (times-half (pos 146100) p) (lit< tt) (mulV slope-is P-is)) (table .e-ok) (lit≤ tt)
+  e-is = times-is slope-is P-is (table .e-ok) (lit≤ tt)
 
   A-is : Val metre (radial (small p) p) (Exact.radial P) (table .a) 176400000
   unfolding radial Exact.radial
-  A-is =
-      weakV
-      (nearV (times-half (small p -ℤ pos 176196600) p) (lit< tt)
-      (mulV (isV (lower (pos 176196600) (small p)) (plusV radial-is e-is)) P-is))
-      (table .a-ok)
-      (lit≤ tt)
+  A-is = times-is (isV (lower (pos 176196600) (small p)) (plusV radial-is e-is)) P-is (table .a-ok) (lit≤ tt)
 
   T-is : Val metre (north (small p)) (Exact.north P) (0 + table .e) 36963301
   unfolding north Exact.north
@@ -81,7 +76,7 @@ module _ {n : ℕ} (table : PermanentErrors n) (u : Vec3) (r : Vector) (u-is : S
 
   w-is : Val metre (down (north (small p)) S) (Exact.north P *ᶠ (r .z *ᶠ r .z)) (table .w) 36970000
   unfolding down
-  w-is = weakV (nearV (times-half (north (small p)) S) (lit< tt) (mulV T-is s2-is)) (table .w-ok) (lit≤ tt)
+  w-is = times-is T-is s2-is (table .w-ok) (lit≤ tt)
 
   abbrev a : ℤ
   a = radial (small p) p
@@ -100,17 +95,15 @@ module _ {n : ℕ} (table : PermanentErrors n) (u : Vec3) (r : Vector) (u-is : S
   unfolding across
   across-is v X v-is =
       sameV (across-same (Exact.radial P) (Exact.north P) (r .z) X)
-      (weakV (nearV (times-half (a -ℤ pos 2 *ℤ w) v) (lit< tt) (mulV flat-is v-is)) (table .x-ok) (lit≤ tt))
+      (times-is flat-is v-is (table .x-ok) (lit≤ tt))
 
   along-is : Val metre (along a (north (small p)) w (u .z)) (permanentAt r .z) (table .z) 340000001
   unfolding along
   along-is =
       sameV (along-same (Exact.radial P) (Exact.north P) (r .z))
-      (weakV
-      (nearV (times-half (a +ℤ pos 2 *ℤ north (small p) -ℤ pos 2 *ℤ w) (u .z)) (lit< tt)
-      (mulV
+      (times-is
       (weakV (minusV (plusV A-is (timesV (pos 2) T-is)) (timesV (pos 2) w-is)) (omega arith) (lit≤ {n = 340000000} tt))
-      (u-is .z)))
+      (u-is .z)
       (table .z-ok)
       (lit≤ tt))
 

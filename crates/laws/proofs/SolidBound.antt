@@ -1,31 +1,34 @@
--- The 100-grain bound of the solid tide: for every accepted mark and every Moon and Sun in reach it lies within 100 grains of (5) at the
--- whole distances L and R, with the body vectors rounded to wholes.
+-- The 100-grain bound of the solid tide: for every accepted mark and every Moon and Sun in reach it lies within 100 grains of (5) for both and (6) for
+-- the Moon at the whole distances L and R, with the body vectors rounded to wholes.
 --
--- One chain (BodyChain) serves both bodies, at any distance R that the whole one stands for: `body-chain`. The theorem takes it at the
--- whole distances.
+-- One chain (BodyChain, TwoChain) serves both bodies, at any distance R that the whole one stands for: `body-chain`; ThreeChain adds the Moon's degree
+-- three: `moon-chain`. The theorem takes them at the whole distances.
 use mathlib.Core.Path.{refl}
 use Prim.Native.Nat.{ℕ, _+_, _*_, _≤_, _<_}
 use native.Mathlib.Omega.{arith}
 use lib.Dec.{T, lit<, lit≤}
 use lib.IntN.{pos, natAbs, _*ℤ_}
 use Rattle.algebra.specs.Fraction.{Fraction, Positive, _≈_, whole, ratio, wholly, _*ᶠ_, _÷ᶠ_}
-use Rattle.algebra.proofs.Error.{Val, miss, quotientV, plusV}
-use Rattle.algebra.proofs.Rearranged.{cubes-same}
+use Rattle.algebra.proofs.Error.{Val, miss, quotientV}
+use Rattle.algebra.proofs.Rearranged.{cubes-same, fourths-same}
 use Rattle.numbers.proofs.NearLaws.{near-half}
 use Rattle.mark.specs.declared.Vec3.{Vec3}
-use Rattle.mark.specs.Mark.{lengthOf, marked, plus}
+use Rattle.mark.specs.Mark.{lengthOf, marked}
 use Rattle.tides.specs.declared.BodyVector.{BodyVector}
 use Rattle.tides.specs.Direction.{E, units}
-use Rattle.tides.specs.Bodies.{Kind, moon, sun, wholes, inReach}
-use Rattle.tides.specs.Tide.{nearness, strength, standing, degreeTwo, partOf, tideAt, tide}
+use Rattle.tides.specs.Bodies.{Kind, moon, thirdK0, sun, wholes, inReach}
+use Rattle.tides.specs.Tide.{nearness, strength, standing, standingAt, degreeTwo, moonPart, sunPart, tideAt, tide}
 use Rattle.tides.specs.Steps.{Direction}
 use Rattle.tides.proofs.DirectionLaws.{mark-direction, body-sum, cosine-bound}
-use Rattle.tides.proofs.TideLaws.{moon-strength, sun-strength, reached as body-far}
-use Rattle.laws.specs.Formulas.{bound, Vector, _+ᵛ_, Close, Puller, metre, grains, direction, Re, theMoon, theSun, inMetres, strengthAt, pulled, solidFormula}
+use Rattle.tides.proofs.DegreeTwoLaws.{moon-strength, sun-strength}
+use Rattle.tides.proofs.TideLaws.{reached as body-far}
+use Rattle.laws.specs.Formulas.{bound, Vector, _+ᵛ_, Close, Puller, metre, direction, Re, theMoon, theSun, inMetres, strengthAt, strengthThreeAt, pulled, pulledThree, solidFormula}
 use Rattle.laws.proofs.Distances.{mark-far, mark-positive, moon-positive, sun-positive}
-use Rattle.laws.proofs.ErrorTables.{BodyErrors, whole-body}
-use Rattle.laws.proofs.StepValues.{Stands, grains-is, whole-stands}
-use Rattle.laws.proofs.BodyChain.{Metres, part-is}
+use Rattle.laws.proofs.ErrorTables.{StandingErrors, TwoErrors, ThreeErrors, whole-standing, whole-two, whole-three}
+use Rattle.laws.proofs.StepValues.{Stands, whole-stands}
+use Rattle.laws.proofs.BodyChain.{Metres, Placed, sum-is, close-is}
+use Rattle.laws.proofs.TwoChain.{two-is}
+use Rattle.laws.proofs.ThreeChain.{three-is}
 
 -- ---- one body
 
@@ -76,37 +79,68 @@ strength-same :
 unfolding strengthAt
 strength-same n r0 p R gm = cubes-same n r0 p R (gm *ᶠ (Re *ᶠ Re *ᶠ Re *ᶠ Re))
 
-pub body-chain :
-    {nu nd nq : ℕ} {k : Kind} {b : Puller} (table : BodyErrors nu nd nq) (known : Known k b) (u : Vec3) (r : Vector) (v : Vec3) (R : Positive)
+-- so the body is placed for both degrees
+body-placed :
+    {nu nd nq : ℕ} {k : Kind} {b : Puller} (known : Known k b) (u : Vec3) (r : Vector) (v : Vec3) (R : Positive)
     → Direction u
     → Stands nu u r
     → StandsFor nd nq k v R
-    → Metres (table .x) (partOf (k .r0) (k .k0) u v (lengthOf v)) (pulled b r v R)
-unfolding partOf standing degreeTwo
-body-chain {k = k} {b} table known u r v R hu u-is placed =
+    → Placed nu nd nq u (standingAt k u v) r (direction v R) (whole (pos (k .r0)) ÷ᶠ R)
+unfolding standing
+body-placed {k = k} known u r v R hu u-is stood =
     let l = lengthOf v in
-    part-is table (k .k0) (nearness (k .r0) l) u (units l v) r (direction v R)
+    record {
+      u-is = u-is;
+      d-is = stood .towards;
+      q-is = stood .nearness-is;
+      c-here = refl;
+      c-small = cosine-bound u (units l v) hu (body-sum l v refl (omega (arith, known .far, stood .reached)));
+    }
+
+pub body-chain :
+    {nu nd nq : ℕ} {k : Kind} {b : Puller} (table : StandingErrors nu nd nq) (two : TwoErrors table) (known : Known k b) (u : Vec3) (r : Vector) (v : Vec3) (R : Positive)
+    → Direction u
+    → Stands nu u r
+    → StandsFor nd nq k v R
+    → Metres (two .x) 780000000 (degreeTwo (k .k0) u (standingAt k u v)) (pulled b r v R)
+unfolding standing
+body-chain {k = k} {b} table two known u r v R hu u-is stood =
+    two-is table two (body-placed known u r v R hu u-is stood) (k .k0)
     (strengthAt (b .gm) (inMetres (b .unit) (wholly (k .r0) (known .r0-pos))))
-    (whole (pos (k .r0)) ÷ᶠ R)
     (strengthAt (b .gm) (inMetres (b .unit) R))
-    u-is
-    (placed .towards)
-    (placed .nearness-is)
     (known .k0-is)
     (strength-same (b .unit) (k .r0) (known .r0-pos) R (b .gm))
-    (known .strongest l (placed .reached))
-    (cosine-bound u (units l v) hu (body-sum l v refl (omega (arith, known .far, placed .reached))))
+    (known .strongest (lengthOf v) (stood .reached))
 
--- ---- the Moon's plus the Sun's
+-- ---- the Moon's degree three
 
-sum-is : {e f g : ℕ} {v w : Vec3} {X Y : Vector} → Metres e v X → Metres f w Y → e + f ≤ 1000 * g → Close g (plus v w) (grains (X +ᵛ Y))
-unfolding plus
-sum-is {g = g} a b h =
-    record {
-      x = grains-is g (plusV (a .x) (b .x)) h;
-      y = grains-is g (plusV (a .y) (b .y)) h;
-      z = grains-is g (plusV (a .z) (b .z)) h;
-    }
+-- K0₃ stands for the exact K3 at R0, (Moon ratio) Re⁵/R0⁴, and is off by at most half a grain
+third-known : Val metre (pos thirdK0) (strengthThreeAt (theMoon .gm) (inMetres 1 (wholly 384400000 (lit< tt)))) 500 8687448
+unfolding strengthThreeAt Re ratio wholly _*ᶠ_ _÷ᶠ_ miss
+third-known = record { off = lit≤ tt; size = lit≤ tt }
+
+-- K3 at the reference distance times (R0/R)⁴ is K3 at R
+third-strength-same :
+    (n r0 : ℕ) (p : 0 < r0) (R : Positive) (gm : Fraction)
+    → strengthThreeAt gm (inMetres n (wholly r0 p)) *ᶠ (whole (pos r0) ÷ᶠ R *ᶠ (whole (pos r0) ÷ᶠ R) *ᶠ (whole (pos r0) ÷ᶠ R) *ᶠ (whole (pos r0) ÷ᶠ R))
+    ≈ strengthThreeAt gm (inMetres n R)
+unfolding strengthThreeAt
+third-strength-same n r0 p R gm = fourths-same n r0 p R (gm *ᶠ (Re *ᶠ Re *ᶠ Re *ᶠ Re *ᶠ Re))
+
+pub moon-chain :
+    {nu nd nq : ℕ} (table : StandingErrors nu nd nq) (two : TwoErrors table) (three : ThreeErrors table) (u : Vec3) (r : Vector) (v : Vec3) (R : Positive)
+    → Direction u
+    → Stands nu u r
+    → StandsFor nd nq moon v R
+    → Metres (two .x + three .x) (780000000 + 18400000) (moonPart u v) (pulled theMoon r v R +ᵛ pulledThree theMoon r v R)
+unfolding moonPart
+moon-chain table two three u r v R hu u-is stood =
+    sum-is (body-chain table two moon-known u r v R hu u-is stood)
+    (three-is table three (body-placed moon-known u r v R hu u-is stood)
+    (strengthThreeAt (theMoon .gm) (inMetres 1 (wholly 384400000 (lit< tt))))
+    (strengthThreeAt (theMoon .gm) (inMetres 1 R))
+    third-known
+    (third-strength-same 1 384400000 (lit< tt) R (theMoon .gm)))
 
 -- ---- at the whole distances
 
@@ -128,15 +162,16 @@ pub solid-within :
     (solidFormula m (wholly (lengthOf m) (mark-positive m t))
     (wholes v) (wholly (lengthOf (wholes v)) (moon-positive v a))
     (wholes w) (wholly (lengthOf (wholes w)) (sun-positive w b)))
-unfolding tide tideAt whole-body
+unfolding tide tideAt sunPart whole-standing whole-two whole-three
 solid-within m v w t a b =
     let u = units (lengthOf m) m in
     let L = wholly (lengthOf m) (mark-positive m t) in
     let hu = mark-direction (lengthOf m) m refl (mark-far m t) in
     let u-is = whole-stands m (mark-positive m t) in
-    sum-is
-    (body-chain whole-body moon-known u (direction m L) (wholes v) (wholly (lengthOf (wholes v)) (moon-positive v a)) hu u-is
+    close-is
+    (sum-is
+    (moon-chain whole-standing whole-two whole-three u (direction m L) (wholes v) (wholly (lengthOf (wholes v)) (moon-positive v a)) hu u-is
     (whole-placed moon-known (wholes v) (moon-positive v a) (body-far moon v a)))
-    (body-chain whole-body sun-known u (direction m L) (wholes w) (wholly (lengthOf (wholes w)) (sun-positive w b)) hu u-is
-    (whole-placed sun-known (wholes w) (sun-positive w b) (body-far sun w b)))
+    (body-chain whole-standing whole-two sun-known u (direction m L) (wholes w) (wholly (lengthOf (wholes w)) (sun-positive w b)) hu u-is
+    (whole-placed sun-known (wholes w) (sun-positive w b) (body-far sun w b))))
     (lit≤ tt)

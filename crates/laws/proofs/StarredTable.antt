@@ -10,7 +10,7 @@ use Rattle.frames.specs.Frame.{knownFrame, rowOf, offset, drift, frameA, frameB
 use Rattle.tides.specs.Direction.{times, unit, legendre}
 use Rattle.tides.specs.Bodies.{wholes}
 use Rattle.tides.specs.Permanent.{s2, small, radial, north, down, across, along, permanentOf, permanent}
-use Rattle.tides.specs.Tide.{nearness, strength, cosine, height, upward, sideways, component, standing, degreeTwo, partOf}
+use Rattle.tides.specs.Tide.{nearness, cosine, standing, cube, component, displaced, strength, height, upward, sideways, degreeTwo, fourth, strengthThree, heightThree, slopeThree, upShareThree, sideShareThree, upwardThree, sidewaysThree, degreeThree, moonPart}
 use Rattle.head.specs.State.{stateOf, withState, stateFits}
 use Rattle.head.specs.Head.{digit, shapeAt, shapeFrom, siteShape, epochFits}
 use Rattle.card.specs.Checks.{isZero, tideFits, velocityFits, fromMark, positionFits, vectorFits, checks}
@@ -19,7 +19,7 @@ use Rattle.field.specs.Field.{roundedBy}
 use Rattle.laws.specs.Starred.{Starred}
 
 pub starred : Starred
-unfolding wholes near nearest root rootIn refine wholeOf ofBits times plus minus scaled squares lengthOf marked markNumber unit s2 legendre small radial north down across along permanentOf permanent knownFrame rowOf offset drift frameA frameB frameAt frameShift frameGain nearness strength cosine height upward sideways component standing degreeTwo partOf first sized digit shapeAt shapeFrom siteShape isZero tideFits stateOf withState stateFits epochFits velocityFits fromMark positionFits vectorFits checks roundedBy moved next own callNumber settle step
+unfolding wholes near nearest root rootIn refine wholeOf ofBits times plus minus scaled squares lengthOf marked markNumber unit s2 legendre small radial north down across along permanentOf permanent knownFrame rowOf offset drift frameA frameB frameAt frameShift frameGain nearness cosine standing cube component displaced strength height upward sideways degreeTwo fourth strengthThree heightThree slopeThree upShareThree sideShareThree upwardThree sidewaysThree degreeThree moonPart first sized digit shapeAt shapeFrom siteShape isZero tideFits stateOf withState stateFits epochFits velocityFits fromMark positionFits vectorFits checks roundedBy moved next own callNumber settle step
 starred =
     record {
       case-1 = (refl, refl, refl);
@@ -33,5 +33,5 @@ starred =
       case-9 = (refl, refl, refl, refl);
       case-10 = (refl, refl);
       case-11 = refl;
-      case-12 = (refl, refl);
+      case-12 = (refl, refl, refl);
     }

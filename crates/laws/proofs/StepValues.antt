@@ -1,27 +1,44 @@
 -- What the shared steps of both chains stand for: unit vectors, near(x y/E), P, and whole numbers of grains for metres.
-use Prim.Native.Nat.{ℕ, _+_, _*_, _≤_, _<_}
-use native.Mathlib.Nat.{mul-le-mul-right}
+use mathlib.Core.Path.{subst}
+use Prim.Native.Nat.{ℕ, _+_, _*_, _/_, _≤_, _<_}
+use native.Mathlib.Nat.{mul-comm, mul-le-mul-right}
 use native.Mathlib.Omega.{arith}
 use lib.Dec.{lit<, lit≤}
 use lib.IntN.{ℤ, pos, natAbs, _-ℤ_, _*ℤ_}
 use Rattle.algebra.specs.Fraction.{Fraction, Within, whole, wholly, _*ᶠ_, _·ᶠ_, _÷ᶠ_}
 use Rattle.algebra.specs.Rounding.{Half}
 use Rattle.algebra.proofs.Error.{Val, miss, constV, quotientV, nearV, mulV, timesV, overV, minusV, weakV, boundV}
+use Rattle.numbers.specs.Near.{near}
 use Rattle.numbers.proofs.NearLaws.{near-half}
 use Rattle.mark.specs.declared.Vec3.{Vec3}
 use Rattle.mark.specs.Mark.{lengthOf}
 use Rattle.mark.proofs.LengthLaws.{within-length}
 use Rattle.tides.specs.Direction.{E, times, unit, units, legendre}
 use Rattle.tides.specs.Tide.{height}
-use Rattle.tides.proofs.TideLaws.{square-bound, height-bound}
+use Rattle.tides.proofs.DegreeTwoLaws.{square-bound, height-bound}
 use Rattle.laws.specs.Formulas.{Vector, direction, metre, P2}
-use Rattle.laws.proofs.ErrorTables.{HeightErrors}
+use Rattle.laws.proofs.ErrorTables.{product, rounded, HeightErrors}
 
 -- ---- one rounding
 
 pub times-half : (x y : ℤ) → Half (x *ℤ y) E (times x y)
 unfolding times
 times-half x y = near-half (x *ℤ y) E (lit< tt)
+
+-- near(x y/E), for any scale of x
+pub times-is :
+    {s : ℕ} {x y : ℤ} {X Y : Fraction} {e a f b r n : ℕ}
+    → Val s x X e a → Val E y Y f b → rounded (product e a f b) E ≤ r → a * b / E + 1 ≤ n → Val s (times x y) (X *ᶠ Y) r n
+times-is {x = x} {y} v w off size = weakV (nearV (times-half x y) (lit< tt) (mulV v w)) off size
+
+-- near(a k/d), where a/d is a fraction of the formulas and k grains
+pub share-is :
+    {a d : ℕ} {k : ℤ} {X K : Fraction} {e b r n : ℕ}
+    → Val d (pos a) X 0 a → Val metre k K e b → 0 < d → rounded (product 0 a e b) d ≤ r → a * b / d + 1 ≤ n → Val metre (near (pos a *ℤ k) d) (X *ᶠ K) r n
+share-is {a} {d} {k} {X} {K} {e} {b} v w p off size =
+    weakV (nearV (near-half (pos a *ℤ k) d p) p (subst (λ (s : ℕ). Val s (pos a *ℤ k) (X *ᶠ K) (product 0 a e b) (a * b)) (mul-comm d metre) (mulV v w)))
+    off
+    size
 
 legendre-half : (s : ℤ) → Half (pos 3 *ℤ s -ℤ pos E) 2 (legendre s)
 unfolding legendre

@@ -1,4 +1,4 @@
--- The conventional formulas of Chapter 7 as exact fractions: the permanent displacement (14a), (14b) and the tide of degree two (5).
+-- The conventional formulas of Chapter 7 as exact fractions: the permanent displacement (14a), (14b), the tide of degree two (5) and of degree three (6).
 --
 -- Nothing is rounded here. The mark and the body vectors are whole numbers; the distances are any positive fractions, so that the whole
 -- distances of 01 are one choice and the real ones another. Displacements are in metres, and `grains` of them in grains.
@@ -87,7 +87,7 @@ permanentAt r =
 abbrev pub permanentFormula : Vec3 → Positive → Vector
 permanentFormula m L = grains (permanentAt (direction m L))
 
--- ---- the tide of degree two
+-- ---- the solid tide
 
 -- Table 1.1: Re, metres
 unfoldable pub Re : Fraction
@@ -114,6 +114,12 @@ inMetres n R = timesᵖ n R
 unfoldable pub strengthAt : Fraction → Positive → Fraction
 strengthAt gm R = gm *ᶠ (Re *ᶠ Re *ᶠ Re *ᶠ Re) ÷ᶠ R ÷ᶠ R ÷ᶠ R
 
+-- K3 = (GM ratio) Re⁵/R⁴, metres, at R metres
+unfoldable pub strengthThreeAt : Fraction → Positive → Fraction
+strengthThreeAt gm R = gm *ᶠ (Re *ᶠ Re *ᶠ Re *ᶠ Re *ᶠ Re) ÷ᶠ R ÷ᶠ R ÷ᶠ R ÷ᶠ R
+
+-- ---- degree two
+
 -- h2 = 0.6078, upward
 unfoldable pub h2 : Fraction
 h2 = ratio (pos 6078) 10000
@@ -132,8 +138,39 @@ degreeTwo K r R =
 abbrev pub pulled : Puller → Vector → Vec3 → Positive → Vector
 pulled b r v R = degreeTwo (strengthAt (b .gm) (inMetres (b .unit) R)) r (direction v R)
 
--- grains: the Moon's plus the Sun's, at a mark m of distance L metres, the Moon's vector v at R metres, the Sun's w at S kilometres
+-- ---- degree three
+
+-- P3(c) = (5 c³ - 3 c)/2
+unfoldable pub P3 : Fraction → Fraction
+P3 c = (pos 5 ·ᶠ (c *ᶠ c *ᶠ c) -ᶠ pos 3 ·ᶠ c) /ᶠ 2
+
+-- its slope: (15 c² - 3)/2
+unfoldable pub slope3 : Fraction → Fraction
+slope3 c = (pos 15 ·ᶠ (c *ᶠ c) -ᶠ whole (pos 3)) /ᶠ 2
+
+-- h3 = 0.292, upward
+unfoldable pub h3 : Fraction
+h3 = ratio (pos 292) 1000
+
+-- l3 = 0.015, sideways
+unfoldable pub l3 : Fraction
+l3 = ratio (pos 15) 1000
+
+-- (6): K3 (h3 r̂ (5 (R̂·r̂)³ - 3 (R̂·r̂))/2 + l3 (15 (R̂·r̂)² - 3)/2 (R̂ - (R̂·r̂) r̂)), in the unit of K3
+abbrev pub degreeThree : Fraction → Vector → Vector → Vector
+degreeThree K r R =
+    let c = dot r R in
+    K *ᵛ ((h3 *ᶠ P3 c) *ᵛ r +ᵛ (l3 *ᶠ slope3 c) *ᵛ (R -ᵛ c *ᵛ r))
+
+-- one body's, metres, at r̂
+abbrev pub pulledThree : Puller → Vector → Vec3 → Positive → Vector
+pulledThree b r v R = degreeThree (strengthThreeAt (b .gm) (inMetres (b .unit) R)) r (direction v R)
+
+-- ---- both
+
+-- grains: degree two and degree three of the Moon plus degree two of the Sun, at a mark m of distance L metres, the Moon's vector v at R metres, the
+-- Sun's w at S kilometres
 abbrev pub solidFormula : Vec3 → Positive → Vec3 → Positive → Vec3 → Positive → Vector
 solidFormula m L v R w S =
     let r = direction m L in
-    grains (pulled theMoon r v R +ᵛ pulled theSun r w S)
+    grains (pulled theMoon r v R +ᵛ pulledThree theMoon r v R +ᵛ pulled theSun r w S)

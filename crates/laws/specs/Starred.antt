@@ -10,8 +10,8 @@ use Rattle.frames.specs.Frame.{frameA, frameB, frameShift}
 use Rattle.tides.specs.Direction.{units}
 use Rattle.tides.specs.Permanent.{permanent}
 use Rattle.tides.specs.declared.BodyVector.{BodyVector}
-use Rattle.tides.specs.Bodies.{moon, wholes}
-use Rattle.tides.specs.Tide.{part}
+use Rattle.tides.specs.Bodies.{moon, thirdK0, wholes}
+use Rattle.tides.specs.Tide.{moonPart}
 use Rattle.card.specs.declared.Card.{Card}
 use Rattle.card.specs.Calls.{move, step}
 use Rattle.card.specs.Sample.{at}
@@ -63,5 +63,5 @@ pub record Starred : Type 0 where
   pub case-10 : (wholeOf (ofBits binary64 0x4004_0000_0000_0000) ≡ some (pos 3)) × (wholeOf (ofBits binary64 0xbfe0_0000_0000_0000) ≡ some (negℤ (pos 1)))
   -- field offsets of 73,050, 73,049 and -73,050 grains: 1, 0, -1
   pub case-11 : roundedBy 146100 (vec (pos 73050) (pos 73049) (negℤ (pos 73050))) ≡ vec (pos 1) (pos 0) (negℤ (pos 1))
-  -- Moon (384400000, 0, 0), as doubles, mark of 2: its part is (near(6,078 K0/10,000), 0, 0)
-  pub case-12 : (wholes ahead ≡ vec (pos 384400000) (pos 0) (pos 0)) × (part moon (units (lengthOf equator) equator) ahead ≡ vec (near (pos 6078 *ℤ pos (moon .k0)) 10000) (pos 0) (pos 0))
+  -- Moon (384400000, 0, 0), as doubles, mark of 2: its part is (near(6,078 K0/10,000) + near(292 K0₃/1,000), 0, 0), which is 320,767,719 in x
+  pub case-12 : (wholes ahead ≡ vec (pos 384400000) (pos 0) (pos 0)) × (moonPart (units (lengthOf equator) equator) (wholes ahead) ≡ vec (near (pos 6078 *ℤ pos (moon .k0)) 10000 +ℤ near (pos 292 *ℤ pos thirdK0) 1000) (pos 0) (pos 0)) × (near (pos 6078 *ℤ pos (moon .k0)) 10000 +ℤ near (pos 292 *ℤ pos thirdK0) 1000 ≡ pos 320767719)

@@ -3,6 +3,8 @@ pub mod StepLaws
 pub mod DirectionLaws
 pub mod PermanentLaws
 pub mod BodyLaws
+pub mod DegreeTwoLaws
+pub mod DegreeThreeLaws
 pub mod TideLaws
 pub mod AimLaws
 pub mod Constants

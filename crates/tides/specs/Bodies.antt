@@ -20,6 +20,10 @@ pub record Kind : Type 0 where
 abbrev pub moon : Kind
 moon = record { r0 = 384400000; k0 = 523578453; low = 350000000; high = 410000000 }
 
+-- K0 of the Moon's degree three, grains
+abbrev pub thirdK0 : ℕ
+thirdK0 = 8687448
+
 -- kilometres
 abbrev pub sun : Kind
 sun = record { r0 = 149597870; k0 = 240449078; low = 146000000; high = 153000000 }

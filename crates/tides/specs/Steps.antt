@@ -1,4 +1,5 @@
 -- What the private steps ask for and answer, in the words of the paper's definitions. No promise to the outside cites these.
+use mathlib.Core.Path.{_≡_}
 use mathlib.Core.Bool.{not, cond, _&&_}
 use mathlib.Core.List.{[], _∷_}
 use Prim.Native.Nat.{ℕ, _+_, _*_, _≤_, _^_}
@@ -8,6 +9,7 @@ use lib.Ieee.{Float}
 use Rattle.refusal.specs.Refusal.{first}
 use Rattle.mark.specs.declared.Vec3.{Vec3}
 use Rattle.mark.specs.Mark.{squares, nowhere, lengthOf, each, between}
+use Rattle.mark.specs.Mark as Mark
 use Rattle.mark.specs.Ranges.{Within}
 unfoldable pub use Rattle.mark.specs.Mark.{plus}
 use Rattle.tides.specs.declared.BodyVector.{BodyVector}
@@ -30,6 +32,12 @@ pub record Stood (b : Standing) : Type 0 where
   pub q : natAbs (b .q) ≤ 1181116007
   pub d : Within E (b .d)
   pub c : natAbs (b .c) ≤ E + 182
+
+-- a body that is seen and lies from low to high, in its own unit
+pub record Reached (low high : ℕ) (s : Sight) : Type 0 where
+  pub squares : s .squares ≡ Mark.squares (s .at)
+  pub least : low ≤ lengthOf (s .at)
+  pub most : lengthOf (s .at) ≤ high
 
 -- a refusal comes with no shift
 abbrev pub refusedWith : ℕ → Shift
