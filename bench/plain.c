@@ -11,8 +11,13 @@ static const int64_t E = 1 << 30;
 
 /* ---- numbers ---- */
 
-/* The nearest whole number to a/b, halves away from zero. */
-static inline int64_t near(int64_t a, int64_t b) { return a < 0 ? -((-a + b / 2) / b) : (a + b / 2) / b; }
+/* The nearest whole number to a/b, b positive, an exact half to the even neighbour. */
+static inline int64_t near(int64_t a, int64_t b)
+{
+    int64_t size = a < 0 ? -a : a, q = size / b, r = size % b;
+    q += b - r < r + q % 2; /* above a half, or at it with an odd q */
+    return a < 0 ? -q : q;
+}
 
 static inline int64_t times(int64_t a, int64_t b) { return near(a * b, E); }
 
@@ -246,7 +251,7 @@ static inline int64_t seen(const struct kind *k, const double *v, int64_t at[3])
 {
     for (int i = 0; i < 3; i++) {
         if (fabs(v[i]) > 1e9) return 0;
-        at[i] = llround(v[i]);
+        at[i] = llrint(v[i]); /* an exact half to the even neighbour, as C rounds unless told otherwise */
     }
     return length_within(at, k->low, k->high);
 }

@@ -2,6 +2,8 @@
  *
  * Units      1,461 grains are a micrometre, 1,461,000,000 grains a metre.
  *            Time is whole quarter-days from 2000.0; 1,461 of them are a year.
+ * Rounding   To the nearest whole number, an exact half to the even neighbour: in every step, in the field edition, and of a
+ *            body's doubles. nv_metres divides doubles, and rounds as they do.
  * Card       88 bytes. Field record: 48 bytes. Both big-endian, two's complement. docs/RULES.md has both layouts, byte by byte.
  * Status     A number, 0 when accepted. Most functions answer it; nv_series and nv_check_catalogue answer it + 256 x a count, so
  *            that it is the answer % 256; nv_find answers a place and no status. The numbers beside a function stand in the

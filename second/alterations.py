@@ -20,8 +20,13 @@ def cut(a, b):
     return f"near({a}, {b})", f"(({a}) // ({b}))"
 
 
+def half_away(a, b):
+    """near(a/b) with exact halves away from zero, for the steps where a half comes up; b is even there."""
+    return f"near({a}, {b})", f"near(2 * ({a}) + (({a}) > 0) - (({a}) < 0), 2 * ({b}))"
+
+
 def half_to_zero(a, b):
-    """near(a/b) with exact halves towards zero, for the steps where a half comes up."""
+    """near(a/b) with exact halves towards zero; b is even too."""
     return f"near({a}, {b})", f"near(2 * ({a}) - (({a}) > 0) + (({a}) < 0), 2 * ({b}))"
 
 
@@ -30,19 +35,30 @@ def half_up(a, b):
     return f"near({a}, {b})", f"((2 * ({a}) + ({b})) // (2 * ({b})))"
 
 
+def halves(name, a, b, away="", to_zero=""):
+    """Two rows of a step: its halves away from zero, as the rule was, and towards it. away and to_zero say why no answer can differ."""
+    return (f"{name}-half-away", *half_away(a, b), away), (f"{name}-half-to-zero", *half_to_zero(a, b), to_zero)
+
+
 def swap(first, second):
     return first + second, second + first
 
 
-# Lines of root: its step, and the one that holds it against the library's own; lines of near.
+# Lines of root: its step, and the one that holds it against the library's own; where near takes a half, and where whole calls it.
 TRY, HELD = "if trial * trial <= n:\n            r = trial\n", "    assert r == math.isqrt(n)\n"
-SIZE = "    size = (2 * abs(a) + b) // (2 * b)\n    return -size if a < 0 else size"
+HALF, OF_DOUBLE = "return below if below % 2 == 0 else below + 1", "near(*ratio(bits))"
 
 ROUNDING = (
     ("scale", "E = 1 << 30", "E = 1 << 29"),
-    ("near-half-to-zero", "(2 * abs(a) + b) // (2 * b)", "(2 * abs(a) + b - 1) // (2 * b)"),
-    ("near-half-up", SIZE, "    return (2 * a + b) // (2 * b)"),
-    ("near-half-to-even", SIZE, "    low, left = divmod(a, b)\n    return low + (2 * left > b or (2 * left == b and low % 2 == 1))"),
+    ("near-half-away", HALF, "return below + (a > 0)"),
+    ("near-half-to-zero", HALF, "return below + (a < 0)"),
+    ("near-half-up", HALF, "return below + 1"),
+    ("near-half-down", HALF, "return below"),
+    ("near-half-to-odd", HALF, "return below if below % 2 == 1 else below + 1"),
+    ("near-half-away-above-zero", HALF, HALF.replace("below %", "a < 0 and below %")),
+    ("near-half-away-below-zero", HALF, HALF.replace("below %", "a < 0 or below %")),
+    ("near-half-by-parity-of-a", HALF, HALF.replace("below % 2", "a % 2")),
+    ("near-cut", "    return below if 2 * left < b else below + 1", "    return below"),
     ("near-by-zero", "if b == 0:\n        return 0", "if b == 0:\n        return a"),
     ("root-square-low", TRY + HELD, TRY.replace("<=", "<")),
     ("root-not-held", HELD, "", "the line only holds the root against the library's own, and it always agrees"),
@@ -51,6 +67,9 @@ ROUNDING = (
      "a denormal is under 2^-1021 with or without the hidden bit, and rounds to 0"),
     ("double-scale", "max(field, 1) - 1075", "max(field, 1) - 1076"),
     ("double-sign", "    if sign:\n", "    if sign and field > 1022:\n"),
+    ("whole-half-away", OF_DOUBLE, half_away("ratio(bits)[0]", "ratio(bits)[1]")[1]),
+    ("whole-half-to-zero", OF_DOUBLE, half_to_zero("ratio(bits)[0]", "ratio(bits)[1]")[1]),
+    ("whole-half-up", OF_DOUBLE, half_up("ratio(bits)[0]", "ratio(bits)[1]")[1]),
     ("far-limit-itself", "abs(value) > E", "abs(value) >= E"),
     ("far-before-rounding", "FAR if abs(value) > E", "FAR if abs(ratio(bits)[0]) > E * ratio(bits)[1]"),
 )
@@ -76,17 +95,17 @@ PERMANENT = (
     ("north-digit", "36_817_200", "36_817_201"),
     ("slope-digit", "146_100", "146_101"),
     ("s2-cut", *cut("uz * uz", "E")),
-    ("P-half-to-zero", *half_to_zero("3 * s2 - E", "2")),
+    *halves("P", "3 * s2 - E", "2"),
     ("P-half-up", *half_up("3 * s2 - E", "2")),
-    ("e-half-to-zero", *half_to_zero("SLOPE * p", "E")),
-    ("A-half-to-zero", *half_to_zero("(e - RADIAL) * p", "E")),
+    *halves("e", "SLOPE * p", "E"),
+    *halves("A", "(e - RADIAL) * p", "E"),
     ("A-sign-of-e", "(e - RADIAL) * p", "(-e - RADIAL) * p"),
     ("T-sign-of-e", "-NORTH - e", "-NORTH + e"),
-    ("w-half-to-zero", *half_to_zero("t * s2", "E")),
+    *halves("w", "t * s2", "E", to_zero="of all uz from 0 to E only seven give a half, each with an even whole part: it goes towards zero by the rule"),
     ("T-once", "flat + 2 * t", "flat + t"),
-    ("shift-x-half-to-zero", *half_to_zero("flat * ux", "E")),
-    ("shift-y-half-to-zero", *half_to_zero("flat * uy", "E")),
-    ("shift-z-half-to-zero", *half_to_zero("(flat + 2 * t) * uz", "E")),
+    *halves("shift-x", "flat * ux", "E"),
+    *halves("shift-y", "flat * uy", "E"),
+    *halves("shift-z", "(flat + 2 * t) * uz", "E"),
 )
 
 FRAMES = (
@@ -102,10 +121,10 @@ FRAMES = (
     ("frame-2000-D-rate", "(1, 1, -18), 8", "(1, 1, -18), 9"),
     ("frame-2008-D", "0: ((0, 0, 0), 0,", "0: ((0, 0, 0), 1,"),
     ("frame-3-known", "return frame in ROWS", "return 0 <= frame <= 3"),
-    ("row-a-half-to-zero", *half_to_zero("1_461 * d * mark[i]", "100_000")),
+    *halves("row-a", "1_461 * d * mark[i]", "100_000"),
     ("row-a-half-up", *half_up("1_461 * d * mark[i]", "100_000")),
     ("row-a-rounded-first", "near(1_461 * d * mark[i], 100_000)", "1_461 * near(d * mark[i], 100_000)"),
-    ("row-b-half-to-zero", *half_to_zero("d_rate * mark[i]", "100_000")),
+    *halves("row-b", "d_rate * mark[i]", "100_000"),
     ("row-b-half-up", *half_up("d_rate * mark[i]", "100_000")),
     ("position-gain-back", "at_epoch(new, mark, epoch), at_epoch(old, mark, epoch)", "at_epoch(old, mark, epoch), at_epoch(new, mark, epoch)"),
     ("velocity-gain-back", "row_b(new, mark), row_b(old, mark)", "row_b(old, mark), row_b(new, mark)"),
@@ -146,6 +165,7 @@ BODIES = (
 )
 
 # The last step of a component, for both degrees; in part it is made for the third by itself.
+ALONG = "s.c * s.u[i]", "E"
 ACROSS = "t * (s.d[i] - near(s.c * s.u[i], E))"
 COMPONENT = f"rho * s.u[i] + {ACROSS}"
 ADDED = "plus(two, displaced(s, *degree_three(s)))"
@@ -158,21 +178,21 @@ def third(component):
 
 THIRD = (
     ("third-q4-cut", *cut("s.q3 * s.q", "E")),
-    ("third-q4-half-to-zero", *half_to_zero("s.q3 * s.q", "E"), "of all accepted distances only 377,637,789 m gives a half, and K is the same by either"),
+    *halves("third-q4", "s.q3 * s.q", "E", *["of all accepted distances only 377,637,789 m gives a half, and K is the same by either"] * 2),
     ("third-q4-is-q3", "q4 = near(s.q3 * s.q, E)", "q4 = s.q3"),
     ("third-q4-is-q5", "near(s.q3 * s.q, E)", "near(near(s.q3 * s.q, E) * s.q, E)"),
     ("third-q4-from-q2", "near(s.q3 * s.q, E)", "near(near(s.q * s.q, E)**2, E)"),
     ("third-q4-at-once", "near(s.q3 * s.q, E)", "near(s.q**4, E**3)"),
     ("third-K-cut", *cut("K0_3 * q4", "E")),
-    ("third-K-half-to-zero", *half_to_zero("K0_3 * q4", "E"), "no accepted distance gives a half"),
+    *halves("third-K", "K0_3 * q4", "E", *["no accepted distance gives a half"] * 2),
     ("third-c3-cut", *cut("s.c2 * s.c", "E")),
-    ("third-c3-half-to-zero", *half_to_zero("s.c2 * s.c", "E")),
+    *halves("third-c3", "s.c2 * s.c", "E"),
     ("third-c3-half-up", *half_up("s.c2 * s.c", "E")),
     ("third-c3-at-once", "near(s.c2 * s.c, E)", "near(s.c**3, E**2)"),
     ("third-c3-is-c2", "c3 = near(s.c2 * s.c, E)", "c3 = s.c2"),
     ("third-c3-is-c", "c3 = near(s.c2 * s.c, E)", "c3 = s.c"),
     ("third-c3-no-sign", "s.c2 * s.c,", "s.c2 * abs(s.c),"),
-    ("third-p-half-to-zero", *half_to_zero("5 * c3 - 3 * s.c", "2")),
+    *halves("third-p", "5 * c3 - 3 * s.c", "2"),
     ("third-p-half-up", *half_up("5 * c3 - 3 * s.c", "2")),
     ("third-p-not-rounded", "near(near(292 * k, 1_000) * p, E)", "near(near(292 * k, 1_000) * (5 * c3 - 3 * s.c), 2 * E)"),
     ("third-p-4-c3", "5 * c3", "4 * c3"),
@@ -180,7 +200,7 @@ THIRD = (
     ("third-p-2-c", "c3 - 3 * s.c", "c3 - 2 * s.c"),
     ("third-p-4-c", "c3 - 3 * s.c", "c3 - 4 * s.c"),
     ("third-p-sign", "c3 - 3 * s.c", "c3 + 3 * s.c"),
-    ("third-v-half-to-zero", *half_to_zero("15 * s.c2 - 3 * E", "2")),
+    *halves("third-v", "15 * s.c2 - 3 * E", "2"),
     ("third-v-half-up", *half_up("15 * s.c2 - 3 * E", "2")),
     ("third-v-not-rounded", "near(near(15 * k, 1_000) * v, E)", "near(near(15 * k, 1_000) * (15 * s.c2 - 3 * E), 2 * E)"),
     ("third-v-14-c2", "15 * s.c2", "14 * s.c2"),
@@ -191,21 +211,22 @@ THIRD = (
     ("third-v-of-c3", "15 * s.c2", "15 * c3"),
     ("third-h-more", "292 *", "293 *"),
     ("third-h-less", "292 *", "291 *"),
-    ("third-H-half-to-zero", *half_to_zero("292 * k", "1_000")),
+    *halves("third-H", "292 * k", "1_000"),
     ("third-H-from-K0", "near(292 * k, 1_000)", "near(292 * K0_3 * q4, 1_000 * E)"),
     ("third-H-not-rounded", "near(near(292 * k, 1_000) * p, E)", "near(292 * k * p, 1_000 * E)"),
     ("third-l-more", "15 * k", "16 * k"),
     ("third-l-less", "15 * k", "14 * k"),
-    ("third-S-half-to-zero", *half_to_zero("15 * k", "1_000")),
+    *halves("third-S", "15 * k", "1_000"),
     ("third-S-from-K0", "near(15 * k, 1_000)", "near(15 * K0_3 * q4, 1_000 * E)"),
     ("third-S-not-rounded", "near(near(15 * k, 1_000) * v, E)", "near(15 * k * v, 1_000 * E)"),
-    ("third-rho-half-to-zero", *half_to_zero("near(292 * k, 1_000) * p", "E")),
+    *halves("third-rho", "near(292 * k, 1_000) * p", "E"),
     ("third-rho-half-up", *half_up("near(292 * k, 1_000) * p", "E")),
-    ("third-t-half-to-zero", *half_to_zero("near(15 * k, 1_000) * v", "E")),
+    *halves("third-t", "near(15 * k, 1_000) * v", "E"),
     ("third-t-half-up", *half_up("near(15 * k, 1_000) * v", "E")),
     ("third-t-thrice", "t = near(near(15 * k, 1_000) * v, E)", "t = 3 * near(near(15 * k, 1_000) * v, E)"),
     ("third-t-as-in-degree-two", "near(near(15 * k, 1_000) * v, E)", "near(near(15 * k, 1_000) * s.c, E)"),
-    ("third-part-half-to-zero", *third(half_to_zero(COMPONENT, "E")[1])),
+    *((f"third-along-{row.__name__.replace('_', '-')}", *third(f"near({COMPONENT.replace(*row(*ALONG))}, E)")) for row in (half_away, half_to_zero)),
+    *((f"third-part-{row.__name__.replace('_', '-')}", *third(row(COMPONENT, "E")[1])) for row in (half_away, half_to_zero)),
     ("third-part-half-up", *third(half_up(COMPONENT, "E")[1])),
     ("third-part-twice-rounded", *third(f"near(rho * s.u[i], E) + near({ACROSS}, E)")),
     ("third-along-not-rounded", *third("near(E * rho * s.u[i] + t * (E * s.d[i] - s.c * s.u[i]), E * E)")),
@@ -229,20 +250,20 @@ SOLID = (
     ("q3-cut", *cut("q2 * q", "E")),
     ("K-cut", *cut("K0[label] * s.q3", "E")),
     ("direction-cut", *cut("v * E", "r")),
-    ("c-half-to-zero", *half_to_zero("sum(a * b for a, b in zip(u, d))", "E")),
+    *halves("c", "sum(a * b for a, b in zip(u, d))", "E"),
     ("c2-cut", *cut("c * c", "E")),
-    ("p-half-to-zero", *half_to_zero("3 * s.c2 - E", "2")),
+    *halves("p", "3 * s.c2 - E", "2"),
     ("p-half-up", *half_up("3 * s.c2 - E", "2")),
     ("h-digit", "6_078", "6_079"),
     ("l-digit", "847 *", "848 *"),
-    ("H-half-to-zero", *half_to_zero("6_078 * k", "10_000")),
+    *halves("H", "6_078 * k", "10_000"),
     ("H-not-rounded", "near(near(6_078 * k, 10_000) * p, E)", "near(6_078 * k * p, 10_000 * E)"),
-    ("S-half-to-zero", *half_to_zero("847 * k", "10_000")),
-    ("rho-half-to-zero", *half_to_zero("near(6_078 * k, 10_000) * p", "E")),
-    ("t-half-to-zero", *half_to_zero("near(847 * k, 10_000) * s.c", "E")),
+    *halves("S", "847 * k", "10_000"),
+    *halves("rho", "near(6_078 * k, 10_000) * p", "E"),
+    *halves("t", "near(847 * k, 10_000) * s.c", "E"),
     ("t-three-inside", "3 * near(near(847 * k, 10_000) * s.c, E)", "near(3 * near(847 * k, 10_000) * s.c, E)"),
-    ("along-half-to-zero", *half_to_zero("s.c * s.u[i]", "E")),
-    ("part-half-to-zero", *half_to_zero(COMPONENT, "E")),
+    *halves("along", *ALONG),
+    *halves("part", COMPONENT, "E"),
     ("radial-along-body", "rho * s.u[i]", "rho * s.d[i]"),
     *THIRD,
     ("sun-as-moon", "part(mark, SUN, sun)", "part(mark, MOON, sun)"),

@@ -1,6 +1,6 @@
 """The altered versions of the card, its records, its calls and the catalogue, for second/altered.py; alterations.py says what a row is."""
 
-from alterations import half_to_zero, half_up, less_third, swap
+from alterations import half_up, halves, less_third, swap
 
 
 def tests(*conditions):
@@ -45,9 +45,9 @@ FIELD = (
     ("field-offset-more", "10_000_000", "10_000_001"),
     ("field-velocity-more", "VELOCITY_MOST = 5_000", "VELOCITY_MOST = 5_001"),
     ("field-velocity-unit", "VELOCITY_UNIT = 100", "VELOCITY_UNIT = 101"),
-    ("field-offset-half-to-zero", *half_to_zero("g", "TENTH_MM")),
+    *halves("field-offset", "g", "TENTH_MM"),
     ("field-offset-half-up", *half_up("g", "TENTH_MM")),
-    ("field-velocity-half-to-zero", *half_to_zero("v", "VELOCITY_UNIT")),
+    *halves("field-velocity", "v", "VELOCITY_UNIT"),
     ("field-velocity-half-up", *half_up("v", "VELOCITY_UNIT")),
     ("export-length-last", "1 if len(buffer) != SIZE else check(card)", "check(card) or (1 if len(buffer) != SIZE else 0)"),
     ("export-12-first", "number = 1 if len(buffer) != SIZE else check(card)", "number = 1 if len(buffer) != SIZE else 0 if card.tide == SOLID else check(card)"),

@@ -1,4 +1,4 @@
-"""Checks the bounds by exact fractions on seeded random cases.
+"""Checks the bounds by exact fractions on seeded random cases, and where exact halves come up.
 
 Both tides stay within 100 grains of their exact formulas in each component, the
 solid tide under 1 m, and the Moon's third degree by itself within 18,400,000
@@ -13,8 +13,10 @@ import sys
 import exact
 import field
 import sample
-from bodies import MOON, RANGE
+from bodies import MOON, RANGE, SUN
 from chance import Chance
+from gen_halves import exported
+from half_places import half_bodies, marks, twice
 from permanent import shift
 from solid import degree_three, displaced, stand, tide
 from tally import Tally
@@ -45,7 +47,7 @@ def axis_marks():
 
 def permanent_bound(rng):
     t, worst = Tally("permanent within 100 grains"), 0
-    for mark in list(axis_marks()) + [sample.mark(rng) for _ in range(ROUNDS)]:
+    for mark in [*axis_marks(), *(sample.mark(rng) for _ in range(ROUNDS)), *marks()]:
         off = gap(shift(mark), exact.permanent(mark))
         worst = max(worst, off)
         t.true(f"{mark}", off <= LIMIT)
@@ -62,17 +64,26 @@ def moons(rng, mark):
             yield sample.along(direction, size)
 
 
+def standings(rng):
+    """A mark, a Moon and a Sun."""
+    for mark in [*axis_marks(), *(sample.mark(rng) for _ in range(ROUNDS))]:
+        for moon in moons(rng, mark):
+            yield mark, moon, sample.sun(rng)
+    for mark, moon in (*half_bodies(MOON), *twice()):
+        yield mark, moon, sample.sun(rng)
+    for mark, sun in half_bodies(SUN):
+        yield mark, sample.moon(rng), sun
+
+
 def solid_bound(rng):
     t, worst, third = Tally("solid within 100 grains, under 1 m, its third degree too"), 0, 0
-    for mark in list(axis_marks()) + [sample.mark(rng) for _ in range(ROUNDS)]:
-        for moon in moons(rng, mark):
-            sun = sample.sun(rng)
-            got = tide(mark, moon, sun)
-            off = gap(got, exact.tide(mark, moon, sun))
-            s = stand(mark, MOON, moon)
-            alone = gap(displaced(s, *degree_three(s)), ZERO)
-            worst, third = max(worst, off), max(third, alone)
-            t.true(f"{mark} {moon} {sun}", off <= LIMIT and gap(got, ZERO) < METRE and alone <= THIRD)
+    for mark, moon, sun in standings(rng):
+        got = tide(mark, moon, sun)
+        off = gap(got, exact.tide(mark, moon, sun))
+        s = stand(mark, MOON, moon)
+        alone = gap(displaced(s, *degree_three(s)), ZERO)
+        worst, third = max(worst, off), max(third, alone)
+        t.true(f"{mark} {moon} {sun}", off <= LIMIT and gap(got, ZERO) < METRE and alone <= THIRD)
     print(f"greatest gap, solid: {hundredths(worst)} grains")
     print(f"greatest component of the third degree: {third} grains")
     return t.close()
@@ -80,8 +91,7 @@ def solid_bound(rng):
 
 def field_bound(rng):
     t = Tally("field within half a unit, and steady")
-    for _ in range(ROUNDS):
-        card = sample.card(rng, tide=rng.randrange(2))
+    for card in (*(sample.card(rng, tide=rng.randrange(2)) for _ in range(ROUNDS)), *exported(rng)):
         number, record = field.export(card, bytes(field.SIZE))
         again, back = field.expand(record)
         t.same("accepted", (number, again), (0, 0))

@@ -1,6 +1,7 @@
 """Checks the numbered cases 1 to 13 of the paper against this program."""
 
 import sys
+from fractions import Fraction
 
 import bodies
 import calls
@@ -24,8 +25,11 @@ def at_mark(mark, **other):
 
 
 def case_1(t):
-    for a, wanted in ((1, 1), (-1, -1), (-3, -2)):
+    for a, wanted in ((1, 0), (-1, 0), (-3, -2)):
         t.same(f"near({a}/2)", near(a, 2), wanted)
+    for b in range(1, 13):  # the library's own rounding takes halves to even too
+        for a in range(-50, 51):
+            t.same(f"near({a}/{b})", near(a, b), round(Fraction(a, b)))
 
 
 def case_2(t):
@@ -69,12 +73,12 @@ def case_9(t):
 
 
 def case_10(t):
-    t.same("2.5", whole(0x4004_0000_0000_0000), 3)
-    t.same("-0.5", whole(0xBFE0_0000_0000_0000), -1)
+    t.same("2.5", whole(0x4004_0000_0000_0000), 2)
+    t.same("-0.5", whole(0xBFE0_0000_0000_0000), 0)
 
 
 def case_11(t):
-    for grains, wanted in ((73_050, 1), (73_049, 0), (-73_050, -1)):
+    for grains, wanted in ((73_050, 0), (73_049, 0), (-73_050, 0)):
         card = at_mark(EQUATOR, position=(EQUATOR[0] * METRE + grains, 0, 0))
         number, record = field.export(card, bytes(field.SIZE))
         got = int.from_bytes(record[28:32], "big", signed=True)
@@ -82,7 +86,10 @@ def case_11(t):
 
 
 def case_12(t):
-    t.same("K0 of degree three", bodies.K0_3, 8_687_448)
+    for label, degree, wanted in ((bodies.MOON, 2, 523_578_453), (bodies.SUN, 2, 240_449_078), (bodies.MOON, 3, 8_687_448)):
+        t.same("K0", bodies.rounded_k0(label, degree), wanted)
+        t.true("K0 comes from no half", (2 * bodies.exact_k0(label, degree)).denominator > 1)
+    t.same("K0 in use", (bodies.K0[bodies.MOON], bodies.K0[bodies.SUN], bodies.K0_3), (523_578_453, 240_449_078, 8_687_448))
     wanted = near(6_078 * bodies.K0[bodies.MOON], 10_000) + near(292 * bodies.K0_3, 1_000)
     t.same("both degrees overhead", wanted, 320_767_719)
     t.same("part", part(EQUATOR, bodies.MOON, (384_400_000, 0, 0)), (wanted, 0, 0))

@@ -38,7 +38,7 @@ def edges(label):
         for i in range(3):
             yield doubles(tuple((n if i != 1 else -n) if k == i else 0 for k in range(3)))
     for n in (2 * least - 1, 2 * most + 1, 1 - 2 * least, -2 * most - 1):
-        half = doubles((n, 0, 0), 2)  # a half: rounds away from zero
+        half = doubles((n, 0, 0), 2)  # a half: both ends of both ranges are even, so it rounds to the end
         yield half
         yield (half[0] - 1, 0, 0)     # the double next to it, nearer to zero
         yield (half[0] + 1, 0, 0)

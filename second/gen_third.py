@@ -33,7 +33,7 @@ HALVES = (
     ("t", 1, (204_399_947, 354_031_094, 0)), ("t", -1, (0, 365_839_986, 0)), ("t", -1, (89_419_458, 346_320_072, 0)),
     ("y", 1, (309_967_808, 178_959_997, 0)), ("y", -1, (309_967_808, -178_959_997, 0)),
     ("y", -1, (42_408_886, 190_839_988, 327_812_736)), ("y", 1, (42_408_886, -190_839_988, 327_812_736)),
-    # a half in y of degree two as well: rounded as one sum it is a grain less
+    # a half in y of degree two as well, of the other kind: the two make up for each other (gen_halves has those that do not)
     ("y", 1, (316_826_724, 182_919_994, 0)), ("y", -1, (333_454_358, -192_519_963, 0)),
 )
 

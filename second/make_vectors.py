@@ -11,6 +11,7 @@ import sys
 
 import gen_calls
 import gen_catalogue
+import gen_halves
 import gen_numbers
 import gen_records
 import gen_third
@@ -30,7 +31,7 @@ PROGRAMS = {kind: "replay_shifts" if kind <= wire.SERIES else
 SOURCES = ((gen_numbers.share, 36), (gen_tides.payloads, 37), (gen_records.payloads, 38),
            (gen_calls.payloads, 39), (gen_catalogue.payloads, 40),
            (gen_numbers.payloads, 1461), (gen_catalogue.checks, 41), (gen_unseen.payloads, 42),
-           (gen_third.payloads, 43))
+           (gen_third.payloads, 43), (gen_halves.payloads, 44))
 
 # Every number that each call can give; "own" are those after its card's check.
 CARD = (2, 3, 4, 5, 6, 7, 8, 9)

@@ -5,7 +5,8 @@ which fractions imports.
 
 Decisions, where the paper leaves room:
 - near by b = 0 is 0, so that the function is total.
-- whole calls a double far when its rounded magnitude is greater than 2^30.
+- whole calls a double far when its rounded magnitude is greater than 2^30;
+  2^30 + 1/2 rounds to 2^30, which is even, and is not far.
   2^30 metres (or kilometres) is beyond every accepted body distance, so a far
   component always means refusal 11.
 """
@@ -19,12 +20,14 @@ FAR = "far"         # rounded magnitude greater than 2^30
 
 
 def near(a, b):
-    """Nearest whole number to a/b, exact halves away from zero; 0 by b = 0."""
+    """The whole number nearest to a/b, of an exact half the even neighbour; 0 by b = 0."""
     assert b >= 0
     if b == 0:
         return 0
-    size = (2 * abs(a) + b) // (2 * b)
-    return -size if a < 0 else size
+    below, left = divmod(a, b)  # a/b is below + left/b, of either sign, and left < b
+    if 2 * left == b:
+        return below if below % 2 == 0 else below + 1
+    return below if 2 * left < b else below + 1
 
 
 def root(n):

@@ -14,6 +14,8 @@ import damage
 import field
 import gen_bodies
 import gen_catalogue
+import gen_halves
+import half_places
 import sample
 from bodies import MOON, SUN
 from card import SIZE, read, to_bytes
@@ -62,12 +64,16 @@ def card_lines(record, room, rng):
     number, out = called(record, room, lambda c: calls.move(c, d))
     line("move", text(record), d, room, number, text(out))
     g = rng.choice((0, 1, 2, 0, 1, 2, 3, 255))
-    number, out = called(record, room, lambda c: calls.frame(c, g))
-    line("frame", text(record), g, room, number, text(out))
+    frame_line(record, room, g)
     for name, call in (("mean_on", calls.mean_on), ("mean_off", calls.mean_off), ("solid_off", calls.solid_off)):
         number, out = called(record, room, call)
         line(name, text(record), room, number, text(out))
     solid_line(record, room, (MOON, gen_bodies.good(rng, MOON)), (SUN, gen_bodies.good(rng, SUN)))
+
+
+def frame_line(record, room, g):
+    number, out = called(record, room, lambda c: calls.frame(c, g))
+    line("frame", text(record), g, room, number, text(out))
 
 
 def solid_line(record, room, first, second):
@@ -144,8 +150,7 @@ def mark_lines(rng):
         if not all(I_MIN <= v <= I_MAX for v in mark):
             continue
         for room in (3, rng.choice((0, 1, 2, 4))):
-            number = 1 if room != 3 else 0 if good_mark(mark) else 6
-            line("permanent", *mark, room, number, 0 if number else 3, *(() if number else shift(mark)))
+            permanent_line(mark, room)
         rows = rng.randrange(4)
         good = [b for _ in range(rows) for b in gen_bodies.good(rng, MOON) + gen_bodies.good(rng, SUN)]
         series_line(mark, good, 3 * rows)
@@ -155,6 +160,11 @@ def mark_lines(rng):
             at = rng.randrange(6 * rows)
             for bad in (0x7FF0 << 48, 0x7FF8 << 48 | 1, 0x41F0 << 48, 1):
                 series_line(mark, good[:at] + [bad] + good[at + 1:], 3 * rows)
+
+
+def permanent_line(mark, room):
+    number = 1 if room != 3 else 0 if good_mark(mark) else 6
+    line("permanent", *mark, room, number, 0 if number else 3, *(() if number else shift(mark)))
 
 
 def series_line(mark, doubles, count):
@@ -186,6 +196,27 @@ def check_lines(rng):
             line("check_catalogue", text(payload), number + 256 * place, "-")
 
 
+def half_lines(rng):
+    """Where exact halves come up: the field edition, cards of the older rule, permanent shifts, frame rows, bodies."""
+    for card in gen_halves.exported(rng):
+        other_lines(to_bytes(card), rng)
+    for old, _, _ in gen_halves.old_cards(rng):
+        card_lines(to_bytes(old), SIZE, rng)
+        other_lines(to_bytes(old), rng)
+    for mark in half_places.marks():
+        permanent_line(mark, 3)
+    for mark in half_places.row_marks():
+        for g in (1, 2):
+            frame_line(to_bytes(damage.moved_to(damage.base(rng), mark)), SIZE, g)
+    for label in (MOON, SUN):
+        bodies = [gen_bodies.doubles(body) for _, body in half_places.half_bodies(label)]
+        for body in (*bodies, *gen_halves.edge_bodies(label), *gen_halves.crossing_bodies(label)):
+            first, second = gen_halves.beside(rng, label, body)
+            moon, sun = (first, second) if first[0] == MOON else (second, first)
+            solid_line(to_bytes(damage.base(rng)), SIZE, first, second)
+            series_line(half_places.AXIS, [*moon[1], *sun[1]], 3)
+
+
 def main():
     rng = Chance(2026)
     for record in records(rng):
@@ -197,6 +228,7 @@ def main():
     mark_lines(rng)
     find_lines(rng)
     check_lines(rng)
+    half_lines(rng)
 
 
 main()

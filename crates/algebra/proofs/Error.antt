@@ -328,7 +328,7 @@ quotient-bound z w n d L t b c p i h l m =
     ))
     p
 
-quotient-size : {x u : ℤ} {L b : ℕ} → 0 < L → Half x L u → natAbs x ≤ b * L → natAbs u ≤ b
+pub quotient-size : {x u : ℤ} {L b : ℕ} → 0 < L → Half x L u → natAbs x ≤ b * L → natAbs u ≤ b
 quotient-size {u = u} {L} {b} p h l =
     let o : L * (2 * natAbs u) < L * (2 * b + 2) = omega (arith, half-size h l) in
     omega (arith, lt-of-mul-lt-mul-left L o)

@@ -28,23 +28,23 @@ use Rattle.field.proofs.PackLaws.{taken}
 use Rattle.laws.specs.Lists.{run, numbers, Accepted, gain, net}
 
 -- all that a run computes with: to unfold one of these names is to unfold what its line names
-unfoldable checking : ℕ
+unfoldable pub checking : ℕ
 unfolding first checks sized digit shapeAt shapeFrom siteShape isZero tideFits stateOf withState stateFits epochFits velocityFits fromMark positionFits vectorFits
 checking = 0
 
-unfoldable marking : ℕ
-unfolding knownFrame marked lengthOf squares root rootIn refine nearest near times plus minus scaled
+unfoldable pub marking : ℕ
+unfolding knownFrame marked lengthOf squares root rootIn refine plus minus scaled
 marking = 0
 
 unfoldable shifting : ℕ
-unfolding unit s2 legendre small radial north down across along permanentOf permanent rowOf offset drift frameA frameB frameAt frameShift frameGain
+unfolding nearest near times unit s2 legendre small radial north down across along permanentOf permanent rowOf offset drift frameA frameB frameAt frameShift frameGain
 shifting = 0
 
 unfoldable tiding : ℕ
 unfolding ofBits wholeOf wholes finite inReach paired moonOf sunOf nearness cosine standing cube component displaced strength height upward sideways degreeTwo fourth strengthThree heightThree slopeThree upShareThree sideShareThree upwardThree sidewaysThree degreeThree moonPart sunPart tideAt tide
 tiding = 0
 
-unfoldable computing : ℕ
+unfoldable pub computing : ℕ
 unfolding checking marking shifting tiding moved reframed next own callNumber settle step
 computing = 0
 

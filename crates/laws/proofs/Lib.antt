@@ -22,6 +22,7 @@ pub mod FieldEdition
 pub mod ByteLists
 pub mod ByteEdition
 pub mod Example
+pub mod StoredCards
 pub mod StarredTable
 pub mod Outcomes
 pub mod ReaderOutcomes

@@ -41,8 +41,8 @@ abbrev pub ahead : BodyVector
 ahead = record { x = ofBits binary64 0x41b6_e97a_8000_0000; y = ofBits binary64 0; z = ofBits binary64 0 }
 
 pub record Starred : Type 0 where
-  -- near(1/2) = 1, near(-1/2) = -1, near(-3/2) = -2
-  pub case-1 : (near (pos 1) 2 ≡ pos 1) × (near (negℤ (pos 1)) 2 ≡ negℤ (pos 1)) × (near (negℤ (pos 3)) 2 ≡ negℤ (pos 2))
+  -- near(1/2) = 0, near(-1/2) = 0, near(-3/2) = -2
+  pub case-1 : (near (pos 1) 2 ≡ pos 0) × (near (negℤ (pos 1)) 2 ≡ pos 0) × (near (negℤ (pos 3)) 2 ≡ negℤ (pos 2))
   -- mark (6378137, 0, 0): permanent shift (88,134,825, 0, 0)
   pub case-2 : permanent equator ≡ vec (pos 88134825) (pos 0) (pos 0)
   -- mark (0, 0, 6356752): (0, 0, -176,050,500)
@@ -59,9 +59,9 @@ pub record Starred : Type 0 where
   pub case-8 : step (at (pos 146100)) (move (pos 1)) .number ≡ 5
   -- marks (6300000, 0, 0) and (6400000, 1, 0) accepted; (6299999, 0, 0) and (6400001, 0, 0) refused, 6
   pub case-9 : (markNumber (vec (pos 6300000) (pos 0) (pos 0)) ≡ 0) × (markNumber (vec (pos 6400000) (pos 1) (pos 0)) ≡ 0) × (markNumber (vec (pos 6299999) (pos 0) (pos 0)) ≡ 6) × (markNumber (vec (pos 6400001) (pos 0) (pos 0)) ≡ 6)
-  -- doubles 2.5 and -0.5 become 3 and -1
-  pub case-10 : (wholeOf (ofBits binary64 0x4004_0000_0000_0000) ≡ some (pos 3)) × (wholeOf (ofBits binary64 0xbfe0_0000_0000_0000) ≡ some (negℤ (pos 1)))
-  -- field offsets of 73,050, 73,049 and -73,050 grains: 1, 0, -1
-  pub case-11 : roundedBy 146100 (vec (pos 73050) (pos 73049) (negℤ (pos 73050))) ≡ vec (pos 1) (pos 0) (negℤ (pos 1))
+  -- doubles 2.5 and -0.5 become 2 and 0
+  pub case-10 : (wholeOf (ofBits binary64 0x4004_0000_0000_0000) ≡ some (pos 2)) × (wholeOf (ofBits binary64 0xbfe0_0000_0000_0000) ≡ some (pos 0))
+  -- field offsets of 73,050, 73,049 and -73,050 grains: 0, 0, 0
+  pub case-11 : roundedBy 146100 (vec (pos 73050) (pos 73049) (negℤ (pos 73050))) ≡ vec (pos 0) (pos 0) (pos 0)
   -- Moon (384400000, 0, 0), as doubles, mark of 2: its part is (near(6,078 K0/10,000) + near(292 K0₃/1,000), 0, 0), which is 320,767,719 in x
   pub case-12 : (wholes ahead ≡ vec (pos 384400000) (pos 0) (pos 0)) × (moonPart (units (lengthOf equator) equator) (wholes ahead) ≡ vec (near (pos 6078 *ℤ pos (moon .k0)) 10000 +ℤ near (pos 292 *ℤ pos thirdK0) 1000) (pos 0) (pos 0)) × (near (pos 6078 *ℤ pos (moon .k0)) 10000 +ℤ near (pos 292 *ℤ pos thirdK0) 1000 ≡ pos 320767719)

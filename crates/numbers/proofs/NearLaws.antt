@@ -1,138 +1,70 @@
--- The laws of `near`: off by at most a half, exact at multiples, odd, the same for equal fractions, not negative where the fraction is
--- not, and no larger than a whole bound; a number nearer than a half is the one, and between neighbours of an even denominator nothing changes. Nothing above may use more, so that another rule for halves changes this file and nothing else.
+-- The laws of `near`: off by at most a half, odd, the same for equal fractions, moved by an even whole number as the fraction is, exact at multiples, not
+-- negative where the fraction is not, and no larger than a whole bound; a number nearer than a half is the one, and between neighbours of an even
+-- denominator nothing changes. They stand on `near-is` and `near-only` of NearRule.antt. Nothing above may use more of `near` than these two and the laws, so that
+-- another rule for halves changes that file, and here the move by an even number.
 use mathlib.Core.Path.{_≡_, refl, sym, ap, _∙_, subst, subst⁻¹}
 use mathlib.Core.Logic.{inl, inr}
-use Prim.Native.Nat.{ℕ, zero, suc, _+_, _*_, _/_, _%_, _≤_, _<_, zero-le}
-use native.Mathlib.Nat.{le-refl, mul-le-mul, mul-comm, le-of-suc-le-suc, div-eq-of-lt-le, mul-div-mul-left, div-mul-le-self, lt-div-mul-add, div-lt-iff-lt-mul, le-div-iff-mul-le, div-zero, eq-zero-or-pos, div-add-mod', mod-lt, le-mul-of-pos-right}
+use Prim.Native.Nat.{ℕ, suc, _+_, _*_, _≤_, _<_, zero-le}
+use native.Mathlib.Nat.{le-refl, mul-le-mul, mul-comm, mul-zero, mul-pos, eq-zero-or-pos, eq-of-mul-eq-mul-left, lt-of-mul-lt-mul-left, le-of-suc-le-suc, le-mul-of-pos-right}
 use native.Mathlib.Omega.{arith}
 use mathlib.Core.List.{[], _∷_}
-use lib.IntN.{ℤ, pos, negsuc, negℤ, natAbs, _+ℤ_, _-ℤ_, _*ℤ_, negℤ-negℤ}
+use lib.IntN.{ℤ, pos, negsuc, negℤ, natAbs, _+ℤ_, _-ℤ_, _*ℤ_}
 use lib.Signed.{_≤ℤ_, _<ℤ_}
 use Rattle.algebra.specs.Rounding.{Half}
 use Rattle.algebra.proofs.Difference.{split, ℤ⊖}
-use Rattle.algebra.proofs.IntLaws.{0≤→pos, abs-neg, abs-*}
+use Rattle.algebra.proofs.IntLaws.{0≤→pos, abs-swap, abs-*}
 use Rattle.algebra.proofs.Ring.{by-ring, quote}
-use Rattle.numbers.specs.Near.{nearest, near}
-
--- ---- of naturals
-
--- twice n lies within b of twice b times the answer
-nearest-low : (n b : ℕ) → 2 * (b * nearest n b) ≤ 2 * n + b
-unfolding nearest
-nearest-low n b = omega (arith, div-mul-le-self (2 * n + b) (2 * b))
-
-nearest-high : (n b : ℕ) → 0 < b → 2 * n < 2 * (b * nearest n b) + b
-unfolding nearest
-nearest-high n b h =
-    let p : 0 < 2 * b = omega arith in
-    omega (arith, lt-div-mul-add {a = 2 * n + b} p)
-
--- and no other number does, with halves up
-pub nearest-is : (n b q : ℕ) → 2 * (b * q) ≤ 2 * n + b → 2 * n < 2 * (b * q) + b → nearest n b ≡ q
-unfolding nearest
-nearest-is n b q l h = div-eq-of-lt-le {k = q} (2 * b) (omega arith) (omega arith)
-
-pub nearest-below-half : (n b : ℕ) → 2 * n < b → nearest n b ≡ 0
-nearest-below-half n b h = nearest-is n b 0 (omega arith) (omega arith)
-
-pub nearest-by-zero : (n : ℕ) → nearest n 0 ≡ 0
-unfolding nearest
-nearest-by-zero n = div-zero (2 * n + 0)
-
-nearest-zero : (b : ℕ) → nearest 0 b ≡ 0
-nearest-zero b = elim (eq-zero-or-pos b) [
-  | inl e ↦ rw e (nearest-by-zero 0)
-  | inr h ↦ nearest-is 0 b 0 (omega arith) (omega arith)
-]
-
-nearest-scale : (k n b : ℕ) → 0 < k → nearest (k * n) (k * b) ≡ nearest n b
-unfolding nearest
-nearest-scale k n b h = ap (λ (x : ℕ). x / (2 * (k * b))) (omega arith) ∙ ap (λ (x : ℕ). k * (2 * n + b) / x) (omega arith) ∙ mul-div-mul-left (2 * n + b) (2 * b) h
-
-pub nearest-same : (n b m c : ℕ) → 0 < b → 0 < c → n * c ≡ m * b → nearest n b ≡ nearest m c
-nearest-same n b m c B C e =
-    sym (nearest-scale c n b C)
-    ∙ ap (λ (x : ℕ). nearest x (c * b)) (mul-comm c n ∙ e ∙ mul-comm m b)
-    ∙ ap (λ (x : ℕ). nearest (b * m) x) (mul-comm c b)
-    ∙ nearest-scale b m c B
-
-bound-positive : (n b k : ℕ) → n ≤ k * b → 0 < b → nearest n b ≤ k
-unfolding nearest
-bound-positive n b k h p =
-    let q : 0 < 2 * b = omega arith in
-    let l : 2 * n + b < suc k * (2 * b) = omega arith in
-    le-of-suc-le-suc (div-lt-iff-lt-mul {k = 2 * b} {x = 2 * n + b} {y = suc k} q .1 l)
-
-pub nearest-bound : (n b k : ℕ) → n ≤ k * b → nearest n b ≤ k
-nearest-bound n b k h = elim (eq-zero-or-pos b) [
-  | inl e ↦ rw e (subst (λ (x : ℕ). x ≤ k) (sym (nearest-by-zero n)) zero-le)
-  | inr p ↦ bound-positive n b k h p
-]
-
-pub nearest-least : (n b k : ℕ) → 0 < b → k * b ≤ n → k ≤ nearest n b
-unfolding nearest
-nearest-least n b k p h =
-    let q : 0 < 2 * b = omega arith in
-    le-div-iff-mul-le q .1 (omega arith)
-
-pub nearest-no-larger : (n b : ℕ) → nearest n b ≤ n
-nearest-no-larger n b = elim (eq-zero-or-pos b) [
-  | inl e ↦ rw e (subst (λ (x : ℕ). x ≤ n) (sym (nearest-by-zero n)) zero-le)
-  | inr p ↦ nearest-bound n b n (le-mul-of-pos-right n p)
-]
-
--- from quotient and remainder: up where the remainder is half of b or more
-pub nearest-up : (n b : ℕ) → 0 < b → b ≤ 2 * (n % b) → nearest n b ≡ n / b + 1
-nearest-up n b p h = nearest-is n b (n / b + 1) (omega (arith, div-add-mod' n b)) (omega (arith, div-add-mod' n b, mod-lt n p))
-
-pub nearest-down : (n b : ℕ) → 2 * (n % b) < b → nearest n b ≡ n / b
-nearest-down n b h = nearest-is n b (n / b) (omega (arith, div-add-mod' n b)) (omega (arith, div-add-mod' n b))
-
--- ---- of whole numbers
-
-half-above : (n b q : ℕ) → 2 * (b * q) ≤ 2 * n + b → 2 * n < 2 * (b * q) + b → 2 * natAbs (pos b *ℤ pos q -ℤ pos n) ≤ b
-half-above n b q = simp ℤ⊖ (omega arith)
-
-half-below : (n b q : ℕ) → 2 * (b * q) ≤ 2 * suc n + b → 2 * suc n < 2 * (b * q) + b → 2 * natAbs (pos b *ℤ negℤ (pos q) -ℤ negsuc n) ≤ b
-half-below n b q = simp ℤ⊖ (omega arith)
+use Rattle.algebra.proofs.Error.{quotient-size}
+use Rattle.numbers.specs.Near.{nearest, near, IsNear}
+use Rattle.numbers.proofs.NearRule.{nearest-by-zero, strictly, carried, turned, near-is, near-only}
 
 -- off by at most a half
 pub near-half : (a : ℤ) (b : ℕ) → 0 < b → Half a b (near a b)
+near-half a b h = near-is a b h .half
+
+-- a whole number that is nearer to a/b than a half is near(a/b)
+pub near-strict : (a : ℤ) (b : ℕ) (q : ℤ) → 2 * natAbs (a -ℤ pos b *ℤ q) < b → near a b ≡ q
+near-strict a b q h = near-only a b q (omega arith) (strictly (omega (arith, abs-swap a (pos b *ℤ q))))
+
+-- by 0 it is 0
+near-by-zero : (a : ℤ) → near a 0 ≡ pos 0
 unfolding near
-near-half (pos n) b h = record { off = half-above n b (nearest n b) (nearest-low n b) (nearest-high n b h) }
-near-half (negsuc n) b h = record { off = half-below n b (nearest (suc n) b) (nearest-low (suc n) b) (nearest-high (suc n) b h) }
+near-by-zero (pos n) = ap pos (nearest-by-zero n)
+near-by-zero (negsuc n) = ap (λ (q : ℕ). negℤ (pos q)) (nearest-by-zero (suc n))
 
 -- odd
 pub near-odd : (a : ℤ) (b : ℕ) → near (negℤ a) b ≡ negℤ (near a b)
-unfolding near
-near-odd (pos zero) b = rw (nearest-zero b)
-near-odd (pos (suc n)) b = refl
-near-odd (negsuc n) b = sym (negℤ-negℤ (pos (nearest (suc n) b)))
-
--- an exact half goes away from zero: n/b = q + 1/2, and the same below zero
-pub near-away : (n b q : ℕ) → 0 < b → 2 * n ≡ 2 * (b * q) + b → near (pos n) b ≡ pos (suc q)
-unfolding near
-near-away n b q p h =
-    let up : b * suc q ≡ b * q + b = omega arith in
-    ap pos (nearest-is n b (suc q) (omega arith) (omega arith))
-
-pub near-away-below : (n b q : ℕ) → 0 < b → 2 * n ≡ 2 * (b * q) + b → near (negℤ (pos n)) b ≡ negℤ (pos (suc q))
-near-away-below n b q p h = near-odd (pos n) b ∙ ap negℤ (near-away n b q p h)
+near-odd a b = elim (eq-zero-or-pos b) [
+  | inl e ↦ rw e (near-by-zero (negℤ a) ∙ ap negℤ (sym (near-by-zero a)))
+  | inr h ↦ near-only (negℤ a) b (negℤ (near a b)) h (turned (near-is a b h))
+]
 
 -- exact at multiples
-multiple : (k b : ℕ) → 0 < b → nearest (k * b) b ≡ k
-multiple k b h = nearest-is (k * b) b k (omega arith) (omega arith)
-
 pub near-multiple : (k : ℤ) (b : ℕ) → 0 < b → near (k *ℤ pos b) b ≡ k
-unfolding near
-near-multiple (pos k) b h = ap pos (multiple k b h)
-near-multiple (negsuc k) b h = near-odd (pos (suc k * b)) b ∙ ap (λ (x : ℕ). negℤ (pos x)) (multiple (suc k) b h)
+near-multiple k b h = near-strict (k *ℤ pos b) b k (omega (arith, none k))
+  where
+    none : (k : ℤ) → natAbs (k *ℤ pos b -ℤ pos b *ℤ k) ≡ 0
+    none k = rw (split k) (simp ℤ⊖ (omega arith))
 
 -- it depends on the value of the fraction only
+scaled : (k : ℕ) {a q : ℤ} {b : ℕ} → 0 < k → IsNear a b q → IsNear (pos k *ℤ a) (k * b) q
+scaled k {a} {q} {b} h i =
+    record {
+      half = record { off = omega (arith, as-far, mul-le-mul (le-refl k) (i .half .off)) };
+      even = λ t. i .even (eq-of-mul-eq-mul-left k h (2 * natAbs (pos b *ℤ q -ℤ a)) b (omega (arith, as-far, t)));
+    }
+  where
+    same : pos (k * b) *ℤ q -ℤ pos k *ℤ a ≡ pos k *ℤ (pos b *ℤ q -ℤ a)
+    same = by-ring (a ∷ q ∷ pos k ∷ pos b ∷ []) (search quote depth 30) tt
+
+    as-far : natAbs (pos (k * b) *ℤ q -ℤ pos k *ℤ a) ≡ k * natAbs (pos b *ℤ q -ℤ a)
+    as-far = ap natAbs same ∙ abs-* (pos k) (pos b *ℤ q -ℤ a)
+
 pub near-scale : (k : ℕ) (a : ℤ) (b : ℕ) → 0 < k → near (pos k *ℤ a) (k * b) ≡ near a b
-unfolding near
-near-scale k (pos n) b h = ap pos (nearest-scale k n b h)
-near-scale k (negsuc n) b h = near-odd (pos (k * suc n)) (k * b) ∙ ap (λ (x : ℕ). negℤ (pos x)) (nearest-scale k (suc n) b h)
+near-scale k a b h = elim (eq-zero-or-pos b) [
+  | inl e ↦ rw (e, mul-zero k) (near-by-zero (pos k *ℤ a) ∙ sym (near-by-zero a))
+  | inr p ↦ near-only (pos k *ℤ a) (k * b) (near a b) (mul-pos h p) (scaled k h (near-is a b p))
+]
 
 pub near-same : (a : ℤ) (b : ℕ) (c : ℤ) (d : ℕ) → 0 < b → 0 < d → pos d *ℤ a ≡ pos b *ℤ c → near a b ≡ near c d
 near-same a b c d B D e =
@@ -141,6 +73,18 @@ near-same a b c d B D e =
     ∙ ap (λ (x : ℕ). near (pos b *ℤ c) x) (mul-comm d b)
     ∙ near-scale b c d B
 
+-- an even whole number more in the fraction is as much more in near, whatever the signs
+pub near-shift : (k a : ℤ) (b : ℕ) → 0 < b → near (pos 2 *ℤ k *ℤ pos b +ℤ a) b ≡ pos 2 *ℤ k +ℤ near a b
+near-shift k a b h =
+    near-only (pos 2 *ℤ k *ℤ pos b +ℤ a) b (pos 2 *ℤ k +ℤ near a b) h
+    (carried (ap natAbs as-far) (λ e. (k +ℤ e .0, ap (λ (q : ℤ). pos 2 *ℤ k +ℤ q) (e .1) ∙ twice (e .0))) (near-is a b h))
+  where
+    as-far : pos b *ℤ (pos 2 *ℤ k +ℤ near a b) -ℤ (pos 2 *ℤ k *ℤ pos b +ℤ a) ≡ pos b *ℤ near a b -ℤ a
+    as-far = by-ring (k ∷ a ∷ near a b ∷ pos b ∷ []) (search quote depth 30) tt
+
+    twice : (j : ℤ) → pos 2 *ℤ k +ℤ pos 2 *ℤ j ≡ pos 2 *ℤ (k +ℤ j)
+    twice j = rw (split k, split j) (simp ℤ⊖ (omega arith))
+
 -- what is not negative stays so
 pub near-natural : (n b : ℕ) → near (pos n) b ≡ pos (natAbs (near (pos n) b))
 unfolding near
@@ -148,29 +92,32 @@ near-natural n b = refl
 
 -- no larger than a whole bound
 pub near-bound : (a : ℤ) (b k : ℕ) → natAbs a ≤ k * b → natAbs (near a b) ≤ k
+near-bound a b k h = elim (eq-zero-or-pos b) [
+  | inl e ↦ rw (e, near-by-zero a) zero-le
+  | inr p ↦ quotient-size p (near-half a b p) h
+]
+
+-- ---- of naturals once more, for the code
+
+pub nearest-same : (n b m c : ℕ) → 0 < b → 0 < c → n * c ≡ m * b → nearest n b ≡ nearest m c
 unfolding near
-near-bound (pos n) b k h = nearest-bound n b k h
-near-bound (negsuc n) b k h = rw (abs-neg (pos (nearest (suc n) b))) (nearest-bound (suc n) b k h)
+nearest-same n b m c B C e = ap natAbs (near-same (pos n) b (pos m) c B C (ap pos (mul-comm c n ∙ e ∙ mul-comm m b)))
 
--- ---- what follows from the half alone
+pub nearest-least : (n b k : ℕ) → 0 < b → k * b ≤ n → k ≤ nearest n b
+unfolding near
+nearest-least n b k p h = le-of-suc-le-suc (lt-of-mul-lt-mul-left b (omega (arith, high (nearest n b) (near-half (pos n) b p .off))))
+  where
+    high : (q : ℕ) → 2 * natAbs (pos b *ℤ pos q -ℤ pos n) ≤ b → 2 * n ≤ 2 * (b * q) + b
+    high q = simp ℤ⊖ (omega arith)
 
--- |n - q| b is at most the sum of the two distances from a
-between : (a n q : ℤ) (b : ℕ) → natAbs (pos b *ℤ (n -ℤ q)) ≤ natAbs (pos b *ℤ n -ℤ a) + natAbs (a -ℤ pos b *ℤ q)
-between a n q b = rw (split a, split n, split q) (simp ℤ⊖ (omega arith))
+pub nearest-no-larger : (n b : ℕ) → nearest n b ≤ n
+unfolding near
+nearest-no-larger n b = elim (eq-zero-or-pos b) [
+  | inl e ↦ rw (e, nearest-by-zero n) zero-le
+  | inr p ↦ near-bound (pos n) b n (le-mul-of-pos-right n p)
+]
 
-none-apart : (n q : ℤ) → natAbs (n -ℤ q) ≡ 0 → n ≡ q
-none-apart n q = rw (split n, split q) (simp ℤ⊖ (omega arith))
-
-less-than-one : (m b : ℕ) → 2 * (b * m) < 2 * b → m ≡ 0
-less-than-one zero b h = refl
-less-than-one (suc m) b h = absurd (omega arith)
-
--- a whole number that is nearer to a/b than a half is near(a/b)
-pub near-strict : (a : ℤ) (b : ℕ) (q : ℤ) → 2 * natAbs (a -ℤ pos b *ℤ q) < b → near a b ≡ q
-near-strict a b q h =
-    let n = near a b in
-    let l : 0 < b = omega arith in
-    none-apart n q (less-than-one (natAbs (n -ℤ q)) b (omega (arith, between a n q b, abs-* (pos b) (n -ℤ q), near-half a b l .off)))
+-- ---- between two fractions
 
 -- X is how far T + c lies above 2 c q
 abbrev above : ℤ → ℕ → ℤ → ℤ

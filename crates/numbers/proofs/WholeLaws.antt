@@ -19,7 +19,8 @@ use Rattle.numbers.specs.declared.Rounded.{Rounded}
 use Rattle.numbers.specs.declared.Rounded.the-variants.{NotFinite, Far, Number}
 use Rattle.numbers.specs.Near.{nearest, near}
 use Rattle.numbers.specs.Whole.{Nearest, signed, none, some, wholeOf, Means, shown}
-use Rattle.numbers.proofs.NearLaws.{near-odd, nearest-same, nearest-below-half, nearest-least}
+use Rattle.numbers.proofs.NearRule.{nearest-below-half}
+use Rattle.numbers.proofs.NearLaws.{near-odd, nearest-same, nearest-least}
 
 -- ---- the case that means a whole number, and that no other does
 

@@ -1,4 +1,4 @@
--- A double as a whole number: the nearest one, halves away from zero, of any size. Infinities and NaN have none.
+-- A double as a whole number: the nearest one, an exact half to the even neighbour, of any size. Infinities and NaN have none.
 use mathlib.Core.Path.{_≡_}
 use mathlib.Core.Bool.{Bool, true, false, cond}
 use Prim.Native.Nat.{ℕ, _*_, _^_, _≤_, _<_}

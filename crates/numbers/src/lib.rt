@@ -26,7 +26,7 @@ pub fn magnitude(z: i64) -> u64
     z as u64
 }
 
-// near(a/b): the nearest whole number to a/b, exact halves away from zero; by 0 it is 0.
+// near(a/b): the nearest whole number to a/b, an exact half to the even neighbour; by 0 it is 0.
 pub fn near(a: i64, b: u64) -> i64
     ensures { λ r. ⌜ r ≡ N.near a b ⌝ }
 {
@@ -52,7 +52,7 @@ pub fn root(n: u64) -> u64
     x
 }
 
-// The whole number nearest to x, halves away from zero, from its bits.
+// The whole number nearest to x, an exact half to the even neighbour, from its bits.
 pub fn whole(x: f64) -> Rounded
     ensures { λ r. ⌜ W.Means r (W.wholeOf x) ⌝ }
 {
@@ -110,7 +110,8 @@ fn width_from(n: u64, first: u64) -> u64
     32
 }
 
-// near(n/b) of two naturals. Nothing overflows: where the remainder is half of b or more, b is at least 2.
+// near(n/b) of two naturals: one more than the quotient above a half, and at a half where the quotient is odd. Both are one test, so that the compiler makes
+// no jump of it. Nothing overflows: where the remainder is half of b or more, b is at least 2.
 fn nearest(n: u64, b: u64) -> u64
     ensures { λ r. ⌜ r ≡ N.nearest n b ⌝ }
 {
@@ -119,7 +120,7 @@ fn nearest(n: u64, b: u64) -> u64
     }
     let q = n / b;
     let r = n % b;
-    if b - r <= r { q + 1 } else { q }
+    if b - r < r + q % 2 { q + 1 } else { q }
 }
 
 // The same as `whole`, of the double's 64 bits: the sign, 11 bits of exponent, 52 of digits.
