@@ -1,6 +1,7 @@
 /* Times the C face against the same work in plain C (plain.c), in one process: the series, a chain of calls, lookup.
  * Both get the same input, take turns, and must give the same answers and the same bytes; the best of their turns counts.
  * With a file's name and a count it writes a catalogue of that many cards instead, for the listing.
+ * Built with OWN_ROOT, as plain.c then is too, it times the series and the calls alone, against plain C with the processor's own square root.
  * A line: what, how many, nanoseconds for each of ours and of plain C, their ratio (1.0 is equal), how many a second.
  */
 #include <math.h>
@@ -10,6 +11,12 @@
 #include <time.h>
 #include "netvjesha.h"
 #include "plain.h"
+
+#ifdef OWN_ROOT
+enum { OWN = 1 };
+#else
+enum { OWN = 0 };
+#endif
 
 static uint64_t state = 88172645463325252u;
 
@@ -158,6 +165,20 @@ static void fresh_cards(void)
     for (int side = 0; side < 2; side++) memcpy(cards[side], fresh, NV_CARD * count);
 }
 
+static void lookups(size_t n)
+{
+    memcpy(catalogue, fresh, NV_CARD * n);
+    memcpy(key, catalogue + NV_CARD * (n - 1), 9);
+    race("lookup, records", n, lookup, NULL);
+    agree(answer[0] == NV_CARD * (n - 1), "lookup");
+
+    /* the dearest catalogue: every record but the last is unlike in the ninth byte only */
+    for (size_t i = 0; i < n; i++) memcpy(catalogue + NV_CARD * i, i + 1 < n ? "12345M678" : "12345M679", 9);
+    memcpy(key, "12345M679", 9);
+    race("lookup, eight bytes like", n, lookup, NULL);
+    agree(answer[0] == NV_CARD * (n - 1), "lookup");
+}
+
 static void all_of(size_t n)
 {
     count = n;
@@ -173,22 +194,13 @@ static void all_of(size_t n)
     /* 1,000,003 and the number of sites have no common factor: every site once, in no order */
     for (size_t i = 0; i < n; i++) card_of(fresh + NV_CARD * i, (unsigned long)(1000003 * (i + 1) % 100000000));
 
-    race("series, rows", n, series, NULL);
+    race(OWN ? "series, own root" : "series, rows", n, series, NULL);
     agree(answer[0] == 256 * (uint64_t)n && !memcmp(tides[0], tides[1], 24 * n), "series");
 
-    race("calls, cards of 10 calls", n, calls, fresh_cards);
+    race(OWN ? "calls, own root" : "calls, cards of 10 calls", n, calls, fresh_cards);
     agree(answer[0] == 10 * (uint64_t)n && !memcmp(cards[0], cards[1], NV_CARD * n), "calls");
 
-    memcpy(catalogue, fresh, NV_CARD * n);
-    memcpy(key, catalogue + NV_CARD * (n - 1), 9);
-    race("lookup, records", n, lookup, NULL);
-    agree(answer[0] == NV_CARD * (n - 1), "lookup");
-
-    /* the dearest catalogue: every record but the last is unlike in the ninth byte only */
-    for (size_t i = 0; i < n; i++) memcpy(catalogue + NV_CARD * i, i + 1 < n ? "12345M678" : "12345M679", 9);
-    memcpy(key, "12345M679", 9);
-    race("lookup, eight bytes like", n, lookup, NULL);
-    agree(answer[0] == NV_CARD * (n - 1), "lookup");
+    if (!OWN) lookups(n);
 
     free(bodies), free(fresh), free(catalogue);
     for (int side = 0; side < 2; side++) free(tides[side]), free(cards[side]);
@@ -206,7 +218,7 @@ int main(int argc, char **argv)
         if (!f || fclose(f)) return perror(argv[1]), 1;
         return 0;
     }
-    printf("%-24s %8s %9s %9s %6s %12s\n", "what", "count", "ours, ns", "plain, ns", "ratio", "ours a second");
+    if (!OWN) printf("%-24s %8s %9s %9s %6s %12s\n", "what", "count", "ours, ns", "plain, ns", "ratio", "ours a second");
     for (size_t n = 1000; n <= 1000000; n *= 10) all_of(n);
     return 0;
 }

@@ -1,4 +1,4 @@
-/* The same work in plain C: cards, calls, tides, lookup, the listing line. Units as in netvjesha.h. */
+/* The same work in plain C: cards, calls, tides, lookup, the listing line. Units as in netvjesha.h. With OWN_ROOT it takes the processor's own square root. */
 #include "plain.h"
 
 #include <math.h>
@@ -21,6 +21,8 @@ static inline int64_t near(int64_t a, int64_t b)
 
 static inline int64_t times(int64_t a, int64_t b) { return near(a * b, E); }
 
+#ifdef OWN_ROOT
+/* The root of n by the processor's own square root, put right by one where the double was off. */
 static inline int64_t root(int64_t n)
 {
     int64_t r = (int64_t)sqrt((double)n);
@@ -28,6 +30,21 @@ static inline int64_t root(int64_t n)
     else if ((r + 1) * (r + 1) <= n) r++;
     return r;
 }
+#else
+/* The root of n by the library's method, a pair of bits at a time: twice the root so far stands in `found`, what its square leaves of n in `rest`.
+ * `taken` is all ones where the bit is set and 0 where not: of an `if` gcc makes a jump here, which no processor can foresee. */
+static int64_t root(int64_t n)
+{
+    uint64_t rest = (uint64_t)n, found = 0;
+#pragma GCC unroll 32
+    for (uint64_t bit = (uint64_t)1 << 62; bit; bit >>= 2) {
+        uint64_t trial = found + bit, taken = -(uint64_t)(rest >= trial);
+        rest -= trial & taken;
+        found = found >> 1 | (bit & taken);
+    }
+    return (int64_t)found;
+}
+#endif
 
 static inline int inside(int64_t v, int64_t most) { return -most <= v && v <= most; }
 
@@ -36,15 +53,15 @@ static inline int all_inside(const int64_t v[3], int64_t most)
     return inside(v[0], most) && inside(v[1], most) && inside(v[2], most);
 }
 
-/* The whole length of v, or 0 where it does not lie from low to high. */
-static inline int64_t length_within(const int64_t v[3], int64_t low, int64_t high)
+/* The sum of v's squares where its root lies from low to high, else 0: a check takes no root. */
+static inline int64_t squares_within(const int64_t v[3], int64_t low, int64_t high)
 {
     if (!all_inside(v, high)) return 0;
-    int64_t r = root(v[0] * v[0] + v[1] * v[1] + v[2] * v[2]);
-    return low <= r && r <= high ? r : 0;
+    int64_t n = v[0] * v[0] + v[1] * v[1] + v[2] * v[2];
+    return low * low <= n && n < (high + 1) * (high + 1) ? n : 0;
 }
 
-static int64_t mark_length(const int64_t m[3]) { return length_within(m, 6300000, 6400000); }
+static int64_t mark_squares(const int64_t m[3]) { return squares_within(m, 6300000, 6400000); }
 
 static inline void units(const int64_t v[3], int64_t r, int64_t u[3])
 {
@@ -128,7 +145,7 @@ uint32_t plain_read(const uint8_t *s, size_t n, struct card *c)
     if (!inside(c->epoch, EPOCHS)) return 5;
     int64_t m[3];
     mark_of(c, m);
-    if (!mark_length(m)) return 6;
+    if (!mark_squares(m)) return 6;
     if (!velocity_fits(c)) return 7;
     if (!position_fits(c)) return 8;
     if (!all_inside(c->solid, METRE)) return 9;
@@ -210,7 +227,7 @@ static inline int64_t legendre(int64_t s) { return near(3 * s - E, 2); }
 static void permanent(const int64_t m[3], int64_t shift[3])
 {
     int64_t u[3];
-    units(m, mark_length(m), u);
+    units(m, root(mark_squares(m)), u);
     int64_t s = times(u[2], u[2]), p = legendre(s), e = times(146100, p);
     int64_t a = times(e - 176196600, p), t = -36817200 - e, w = times(t, s);
     shift[0] = times(a - 2 * w, u[0]);
@@ -246,14 +263,14 @@ static const struct kind sun = {146000000, 153000000, 149597870, 240449078, 0};
 
 static inline int finite3(const double *v) { return isfinite(v[0]) && isfinite(v[1]) && isfinite(v[2]); }
 
-/* The whole vector and distance of a body, 0 where it is out of range. */
+/* The whole vector of a body and the sum of its squares, 0 where its distance is out of range. */
 static inline int64_t seen(const struct kind *k, const double *v, int64_t at[3])
 {
     for (int i = 0; i < 3; i++) {
         if (fabs(v[i]) > 1e9) return 0;
         at[i] = llrint(v[i]); /* an exact half to the even neighbour, as C rounds unless told otherwise */
     }
-    return length_within(at, k->low, k->high);
+    return squares_within(at, k->low, k->high);
 }
 
 static inline void add_part(const struct kind *k, const int64_t u[3], const int64_t at[3], int64_t r, int64_t shift[3])
@@ -280,11 +297,11 @@ static inline uint32_t pair_tide(const int64_t u[3], const double *v, const doub
 {
     int64_t a[3], b[3];
     if (!finite3(v) || !finite3(w)) return 10;
-    int64_t ra = seen(&moon, v, a), rb = seen(&sun, w, b);
-    if (!ra || !rb) return 11;
+    int64_t na = seen(&moon, v, a), nb = seen(&sun, w, b);
+    if (!na || !nb) return 11;
     shift[0] = shift[1] = shift[2] = 0;
-    add_part(&moon, u, a, ra, shift);
-    add_part(&sun, u, b, rb, shift);
+    add_part(&moon, u, a, root(na), shift);
+    add_part(&sun, u, b, root(nb), shift);
     return 0;
 }
 
@@ -299,7 +316,7 @@ uint32_t plain_solid_on(const uint8_t *card, size_t n, uint8_t la, double ax, do
     double a[3] = {ax, ay, az}, b[3] = {bx, by, bz};
     int64_t mark[3], u[3];
     mark_of(&c, mark);
-    units(mark, mark_length(mark), u);
+    units(mark, root(mark_squares(mark)), u);
     r = la == 0 ? pair_tide(u, a, b, c.solid) : pair_tide(u, b, a, c.solid);
     if (r) return r;
     for (int i = 0; i < 3; i++) c.position[i] += c.solid[i];
@@ -324,16 +341,16 @@ uint32_t plain_solid_off(const uint8_t *card, size_t n, uint8_t *out, size_t m)
 /* Number + 256 x (rows, or the bad row). All rows are looked at before the first number is written. */
 uint64_t plain_series(int64_t x, int64_t y, int64_t z, const double *bodies, size_t n, int64_t *out, size_t m)
 {
-    int64_t mark[3] = {x, y, z}, u[3], l = mark_length(mark), at[3];
+    int64_t mark[3] = {x, y, z}, u[3], n2 = mark_squares(mark), at[3];
     size_t count = m / 3;
-    if (!l) return 6;
+    if (!n2) return 6;
     if (m != 3 * count || n != 6 * count) return 16;
     for (size_t i = 0; i < count; i++) {
         const double *row = bodies + 6 * i;
         if (!finite3(row) || !finite3(row + 3)) return 10 + 256 * (uint64_t)i;
         if (!seen(&moon, row, at) || !seen(&sun, row + 3, at)) return 11 + 256 * (uint64_t)i;
     }
-    units(mark, l, u);
+    units(mark, root(n2), u);
     for (size_t i = 0; i < count; i++) pair_tide(u, bodies + 6 * i, bodies + 6 * i + 3, out + 3 * i);
     return 256 * (uint64_t)count;
 }

@@ -44,9 +44,38 @@ def swap(first, second):
     return first + second, second + first
 
 
-# Lines of root: its step, and the one that holds it against the library's own; where near takes a half, and where whole calls it.
+# Lines of root: its places, its step, and the one that holds it against the library's own; where near takes a half, and where whole calls it.
+PLACES = "reversed(range((n.bit_length() + 1) // 2))"
 TRY, HELD = "if trial * trial <= n:\n            r = trial\n", "    assert r == math.isqrt(n)\n"
 HALF, OF_DOUBLE = "return below if below % 2 == 0 else below + 1", "near(*ratio(bits))"
+
+
+def root_with(old, new):
+    """root with another text in it, and not held against the library's own."""
+    lines = f"{PLACES}:\n        trial = r | (1 << place)\n        {TRY}"
+    return lines + HELD, lines.replace(old, new)
+
+
+def root_within(allowed):
+    """root that takes a trial when its square is less than n plus so much; 1 is right."""
+    return root_with("<= n", f"< n + ({allowed})")
+
+
+# What a root found a place at a time may get wrong. The top place of a 64-bit number is 31, but this one starts at the number's own; 13 is a place between.
+ROOT = (
+    ("root-start-low", *root_with(PLACES, PLACES.replace("(n.bit_length() + 1) // 2", "min(31, (n.bit_length() + 1) // 2)"))),
+    ("root-own-start-low", *root_with(PLACES, PLACES.replace("+ 1", "- 1"))),
+    ("root-last-left-out", *root_with(PLACES, PLACES.replace("range(", "range(1, "))),
+    ("root-place-skipped", *root_with("if ", "if place != 13 and ")),
+    ("root-tie-at-top", *root_within("place != 31")),
+    ("root-tie-at-last", *root_within("place > 0")),
+    ("root-tie-at-a-middle-place", *root_within("place != 13")),
+    ("root-tie-at-a-middle-place-after-a-bit", *root_within("place != 13 or r == 0")),
+    ("root-one-less-at-a-middle-place", *root_within("1 + (place == 13)")),
+    ("root-end-high", *root_within("2")),
+    ("root-nearest", HELD, "    r += n - r * r > r\n"),
+    ("root-left-in-33-bits", *root_with("trial * trial <= n", "trial * trial - r * r <= (n - r * r) % (1 << 33 + 2 * place)")),
+)
 
 ROUNDING = (
     ("scale", "E = 1 << 30", "E = 1 << 29"),
@@ -61,6 +90,7 @@ ROUNDING = (
     ("near-cut", "    return below if 2 * left < b else below + 1", "    return below"),
     ("near-by-zero", "if b == 0:\n        return 0", "if b == 0:\n        return a"),
     ("root-square-low", TRY + HELD, TRY.replace("<=", "<")),
+    *ROOT,
     ("root-not-held", HELD, "", "the line only holds the root against the library's own, and it always agrees"),
     ("infinity-far", "return NOT_FINITE", "return NOT_FINITE if parts(bits)[2] else FAR"),
     ("hidden-bit-always", "fraction if field == 0 else fraction | (1 << 52)", "fraction | (1 << 52)",

@@ -100,3 +100,6 @@ def share(rng):
     """One in some."""
     near, root, whole = drawn(rng)
     return packed(near[::6], root[::5], whole[:FIELDS:16] + whole[FIELDS::3])
+
+
+SOURCES = (share, 36), (payloads, 1461)  # each with its seed, for make_vectors.py

@@ -14,6 +14,7 @@ import gen_catalogue
 import gen_halves
 import gen_numbers
 import gen_records
+import gen_roots
 import gen_third
 import gen_tides
 import gen_unseen
@@ -28,10 +29,11 @@ PROGRAMS = {kind: "replay_shifts" if kind <= wire.SERIES else
             "replay" if kind <= wire.CALLS else "replay_catalogues" for kind in wire.NAMES}
 
 # Each source and its seed. A new one comes last, so that what stands stays as it is.
-SOURCES = ((gen_numbers.share, 36), (gen_tides.payloads, 37), (gen_records.payloads, 38),
+SHARE, NUMBERS = gen_numbers.SOURCES
+SOURCES = (SHARE, (gen_tides.payloads, 37), (gen_records.payloads, 38),
            (gen_calls.payloads, 39), (gen_catalogue.payloads, 40),
-           (gen_numbers.payloads, 1461), (gen_catalogue.checks, 41), (gen_unseen.payloads, 42),
-           (gen_third.payloads, 43), (gen_halves.payloads, 44))
+           NUMBERS, (gen_catalogue.checks, 41), (gen_unseen.payloads, 42),
+           (gen_third.payloads, 43), (gen_halves.payloads, 44), (gen_roots.payloads, 45))
 
 # Every number that each call can give; "own" are those after its card's check.
 CARD = (2, 3, 4, 5, 6, 7, 8, 9)

@@ -3,5 +3,5 @@ pub mod NearRule
 pub mod NearLaws
 pub mod NearSteps
 pub mod RootLaws
-pub mod NewtonLaws
+pub mod RootPairs
 pub mod WholeLaws

@@ -41,15 +41,28 @@ pub fn near(a: i64, b: u64) -> i64
     n as i64
 }
 
-// The root of n: the greatest number whose square is at most n. From at least the root, Newton's step comes down to it.
+// The root of n: the greatest number whose square is at most n. As by hand, a pair of bits at a time from the top, with shifts, sums, differences and comparisons
+// alone. With R the root so far and s the place of its next bit, `bit` is s², `found` 2 R s, `rest` n - R², and `trial` what the square grows by with that bit,
+// (R + s)² - R². After the last bit `found` is the root.
 pub fn root(n: u64) -> u64
     ensures { λ r. ⌜ r ≡ R.root n ⌝ }
 {
-    let mut x = start(n);
-    while n < x * x {
-        x = (x + n / x) / 2;
+    let mut bit = 1u64 << 62;
+    let mut rest = n;
+    let mut found = 0u64;
+    while 0 < bit {
+        let trial = found + bit;
+        let half = found >> 1;
+        if rest < trial {
+            found = half;
+        } else {
+            rest = rest - trial;
+            // half + bit; as a difference it is ready before the test, and the compiler makes no jump
+            found = trial - half;
+        }
+        bit = bit >> 2;
     }
-    x
+    found
 }
 
 // The whole number nearest to x, an exact half to the even neighbour, from its bits.
@@ -60,54 +73,6 @@ pub fn whole(x: f64) -> Rounded
         return Rounded::NotFinite;
     }
     whole_of_bits(f64::to_bits(x))
-}
-
-// At least the root of n, below 2^32. By the chord a + b, a = 2^(e - 1), b = n/2^e, times 91/128, which is more than the root
-// of a half: from 2^20 to 2^60 less than 7 in 100 above the root. A Moon's distance then takes two steps or three; no number was seen to
-// take over five.
-fn start(n: u64) -> u64
-    ensures { λ r. ⌜ r < 2 ^ 32 ⌝ }
-    ensures { λ r. ⌜ n < (r + 1) * (r + 1) ⌝ }
-{
-    let e = half_width(n);
-    let sum = (1u64 << (e - 1)) + (n >> e) + 1;
-    if 4294967296 < sum {
-        return 4294967295;
-    }
-    91 * sum / 128
-}
-
-// The e for which 4^e is above n and at most 4 n; 1 at 0, 32 from 2^60 on. Any e gives a start that is right, this one a near one.
-fn half_width(n: u64) -> u64
-    ensures { λ r. ⌜ 1 ≤ r ⌝ }
-    ensures { λ r. ⌜ r ≤ 32 ⌝ }
-{
-    if n < 4294967296 {
-        return width_from(n, 1);
-    }
-    width_from(n / 4294967296, 17)
-}
-
-// The same by pairs of bits, counted from `first` on.
-fn width_from(n: u64, first: u64) -> u64
-    requires { ⌜ 1 ≤ first ⌝ }
-    requires { ⌜ first ≤ 32 ⌝ }
-    ensures { λ r. ⌜ 1 ≤ r ⌝ }
-    ensures { λ r. ⌜ r ≤ 32 ⌝ }
-{
-    let mut m = n;
-    let mut e = first;
-    while e < 31 {
-        if m < 4 {
-            return e;
-        }
-        if m < 16 {
-            return e + 1;
-        }
-        m = m / 16;
-        e += 2;
-    }
-    32
 }
 
 // near(n/b) of two naturals: one more than the quotient above a half, and at a half where the quotient is odd. Both are one test, so that the compiler makes
