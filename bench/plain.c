@@ -224,6 +224,9 @@ uint32_t plain_frame(const uint8_t *card, size_t n, uint8_t frame, uint8_t *out,
 
 static inline int64_t legendre(int64_t s) { return near(3 * s - E, 2); }
 
+/* P of a mark, from its unit vector. */
+static inline int64_t latitude(const int64_t u[3]) { return legendre(times(u[2], u[2])); }
+
 static void permanent(const int64_t m[3], int64_t shift[3])
 {
     int64_t u[3];
@@ -273,14 +276,22 @@ static inline int64_t seen(const struct kind *k, const double *v, int64_t at[3])
     return squares_within(at, k->low, k->high);
 }
 
-static inline void add_part(const struct kind *k, const int64_t u[3], const int64_t at[3], int64_t r, int64_t shift[3])
+/* near((a E + b p) k/(10,000 E)), grains: neither factor is negative, and the product has up to 72 bits. */
+static inline int64_t share(int64_t a, int64_t b, int64_t p, int64_t k)
+{
+    unsigned __int128 n = (unsigned __int128)(uint64_t)(a * E + b * p) * (uint64_t)k;
+    int64_t whole = (int64_t)(n >> 30), q = whole / 10000, r = whole % 10000 * E + (int64_t)((uint64_t)n & (uint64_t)(E - 1));
+    return q + (10000 * E - r < r + q % 2);
+}
+
+static inline void add_part(const struct kind *k, const int64_t u[3], int64_t p, const int64_t at[3], int64_t r, int64_t shift[3])
 {
     int64_t q = near(k->r0 * E, r), q3 = times(times(q, q), q), strength = times(k->k0, q3);
     int64_t d[3], across[3];
     units(at, r, d);
     int64_t c = near(u[0] * d[0] + u[1] * d[1] + u[2] * d[2], E), c2 = times(c, c);
-    int64_t rho = times(near(6078 * strength, 10000), legendre(c2));
-    int64_t t = 3 * times(near(847 * strength, 10000), c);
+    int64_t rho = times(share(6078, -6, p, strength), legendre(c2));
+    int64_t t = 3 * times(share(847, 2, p, strength), c);
     for (int i = 0; i < 3; i++) {
         across[i] = d[i] - times(c, u[i]);
         shift[i] += near(rho * u[i] + t * across[i], E);
@@ -292,16 +303,16 @@ static inline void add_part(const struct kind *k, const int64_t u[3], const int6
     for (int i = 0; i < 3; i++) shift[i] += near(rho * u[i] + t * across[i], E);
 }
 
-/* 10, 11, or 0 and the tide. */
-static inline uint32_t pair_tide(const int64_t u[3], const double *v, const double *w, int64_t shift[3])
+/* 10, 11, or 0 and the tide, at a mark with the unit vector u and P p. */
+static inline uint32_t pair_tide(const int64_t u[3], int64_t p, const double *v, const double *w, int64_t shift[3])
 {
     int64_t a[3], b[3];
     if (!finite3(v) || !finite3(w)) return 10;
     int64_t na = seen(&moon, v, a), nb = seen(&sun, w, b);
     if (!na || !nb) return 11;
     shift[0] = shift[1] = shift[2] = 0;
-    add_part(&moon, u, a, root(na), shift);
-    add_part(&sun, u, b, root(nb), shift);
+    add_part(&moon, u, p, a, root(na), shift);
+    add_part(&sun, u, p, b, root(nb), shift);
     return 0;
 }
 
@@ -317,7 +328,8 @@ uint32_t plain_solid_on(const uint8_t *card, size_t n, uint8_t la, double ax, do
     int64_t mark[3], u[3];
     mark_of(&c, mark);
     units(mark, root(mark_squares(mark)), u);
-    r = la == 0 ? pair_tide(u, a, b, c.solid) : pair_tide(u, b, a, c.solid);
+    int64_t p = latitude(u);
+    r = la == 0 ? pair_tide(u, p, a, b, c.solid) : pair_tide(u, p, b, a, c.solid);
     if (r) return r;
     for (int i = 0; i < 3; i++) c.position[i] += c.solid[i];
     c.tide = 2;
@@ -351,7 +363,8 @@ uint64_t plain_series(int64_t x, int64_t y, int64_t z, const double *bodies, siz
         if (!seen(&moon, row, at) || !seen(&sun, row + 3, at)) return 11 + 256 * (uint64_t)i;
     }
     units(mark, root(n2), u);
-    for (size_t i = 0; i < count; i++) pair_tide(u, bodies + 6 * i, bodies + 6 * i + 3, out + 3 * i);
+    int64_t p = latitude(u);
+    for (size_t i = 0; i < count; i++) pair_tide(u, p, bodies + 6 * i, bodies + 6 * i + 3, out + 3 * i);
     return 256 * (uint64_t)count;
 }
 

@@ -56,8 +56,8 @@ uint32_t nv_mean_on(const uint8_t *card, size_t card_len, uint8_t *out, size_t o
  * Status, its own: 12, 8. */
 uint32_t nv_mean_off(const uint8_t *card, size_t card_len, uint8_t *out, size_t out_len);
 
-/* Adds the solid tide of a Moon and a Sun, in either order, in grains, and stores it in the card: degree two of both, degree
- * three of the Moon.
+/* Adds the solid tide of a Moon and a Sun, in either order, in grains, and stores it in the card: degree two of both, with h
+ * and l of the mark's latitude, and degree three of the Moon.
  * A body is a label and three doubles: NV_MOON in metres, NV_SUN in kilometres. Any other label is no body: 17.
  * Status, its own: 12, 17, 10, 11, 8. */
 uint32_t nv_solid_on(const uint8_t *card, size_t card_len,

@@ -1,6 +1,7 @@
 """The altered versions of the card, its records, its calls and the catalogue, for second/altered.py; alterations.py says what a row is."""
 
-from alterations import half_up, halves, less_third, swap
+from alterations import half_up, halves, swap
+from alterations_tides import LESS
 
 
 def tests(*conditions):
@@ -96,7 +97,14 @@ SOLID_OFF = MEAN_OFF.replace("mean", "solid").replace("MEAN", "SOLID")
 
 
 PUT_ON = "    return settled(card, card._replace(\n        tide=SOLID, position=plus(card.position, tide), vector=tide))\n"
-LESS_THIRD = less_third("    ", "card.mark", "*solid.order_pair(first, second)[1:]")
+
+
+def solid_on_less(name, less):
+    """Solid on without a part of the tide, or with it only in the position or only in what is stored."""
+    lines = less("    ", "card.mark", "*solid.order_pair(first, second)[1:]").replace("import solid\n", "import solid; whole_tide = tide\n")
+    return ((f"solid-on-without-{name}", PUT_ON, lines + PUT_ON),
+            (f"solid-on-{name}-not-stored", PUT_ON, lines + PUT_ON.replace("position, tide", "position, whole_tide")),
+            (f"solid-on-{name}-not-added", PUT_ON, lines + PUT_ON.replace("vector=tide", "vector=whole_tide")))
 
 
 def eight_first(call, position):
@@ -138,9 +146,7 @@ CALLS = (
     ("solid-on-8-before-12", *eight_first(SOLID_12, "plus(card.position, pair_tide(card.mark, first, second)[1])")),
     ("solid-on-from-position", "pair_tide(card.mark, first", f"pair_tide({MOVED}, first"),
     ("solid-on-not-stored", "position=plus(card.position, tide), vector=tide", "position=plus(card.position, tide)"),
-    ("solid-on-without-third", PUT_ON, LESS_THIRD + PUT_ON),
-    ("solid-on-third-not-stored", PUT_ON, "    whole = tide\n" + LESS_THIRD + PUT_ON.replace("position, tide", "position, whole")),
-    ("solid-on-third-not-added", PUT_ON, "    whole = tide\n" + LESS_THIRD + PUT_ON.replace("vector=tide", "vector=whole")),
+    *(row for name, less in LESS for row in solid_on_less(name, less)),
     ("solid-on-zero-tide-off", "tide=SOLID, position", "tide=SOLID if any(tide) else FREE, position"),
     ("solid-off-any", SOLID_OFF, SOLID_OFF.replace("!= SOLID", "== FREE")),
     ("solid-off-no-vector-refused", SOLID_OFF, SOLID_OFF.replace("card.tide != SOLID", "card.vector == ZERO")),

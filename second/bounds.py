@@ -12,6 +12,7 @@ import sys
 
 import exact
 import field
+import gen_latitude
 import sample
 from bodies import MOON, RANGE, SUN
 from chance import Chance
@@ -38,7 +39,7 @@ def hundredths(value):
 
 
 def axis_marks():
-    """Marks on the axes and at both ends of the range, where rounding is plain."""
+    """Marks on the axes, which are the poles and four on the equator, at both ends of the range too; rounding is plain there."""
     for size in (6_300_000, 6_378_137, 6_400_000):
         for i in range(3):
             for sign in (1, -1):
@@ -73,6 +74,17 @@ def standings(rng):
         yield mark, moon, sample.sun(rng)
     for mark, sun in half_bodies(SUN):
         yield mark, sample.moon(rng), sun
+    yield from at_latitudes(rng)
+
+
+def at_latitudes(rng):
+    """The axes and marks of a known P, both bodies in every place, near and far; then halves that hang on latitude."""
+    for mark in (*axis_marks(), *gen_latitude.known_marks()):
+        for turn in range(4):
+            for both in gen_latitude.standings(mark, turn):
+                yield mark, *both
+    for mark, label, body in (*gen_latitude.half_bodies(), *gen_latitude.narrow()):
+        yield mark, *((body, sample.sun(rng)) if label == MOON else (sample.moon(rng), body))
 
 
 def solid_bound(rng):

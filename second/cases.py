@@ -90,8 +90,11 @@ def case_12(t):
         t.same("K0", bodies.rounded_k0(label, degree), wanted)
         t.true("K0 comes from no half", (2 * bodies.exact_k0(label, degree)).denominator > 1)
     t.same("K0 in use", (bodies.K0[bodies.MOON], bodies.K0[bodies.SUN], bodies.K0_3), (523_578_453, 240_449_078, 8_687_448))
-    wanted = near(6_078 * bodies.K0[bodies.MOON], 10_000) + near(292 * bodies.K0_3, 1_000)
-    t.same("both degrees overhead", wanted, 320_767_719)
+    # On the equator P is -1/2, so h is 0.6078 + 0.0003 = 0.6081.
+    love = Fraction("0.6078") - Fraction("0.0006") * Fraction(-1, 2)
+    t.same("h", love, Fraction("0.6081"))
+    wanted = round(love * bodies.K0[bodies.MOON]) + round(Fraction("0.292") * bodies.K0_3)
+    t.same("both degrees overhead", wanted, 320_924_792)
     t.same("part", part(EQUATOR, bodies.MOON, (384_400_000, 0, 0)), (wanted, 0, 0))
 
 

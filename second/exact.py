@@ -9,7 +9,8 @@ from bodies import GM_RATIO, MOON, RE, SUN, UNIT, distance
 from mark import length
 from units import METRE
 
-H2, L2 = Fraction(6_078, 10_000), Fraction(847, 10_000)
+H2, L2 = Fraction(6_078, 10_000), Fraction(847, 10_000)           # of degree two where P is 0
+H2_SLOPE, L2_SLOPE = Fraction(-6, 10_000), Fraction(2, 10_000)    # what each gains as P goes from 0 to 1
 H3, L3 = Fraction(292, 1_000), Fraction(15, 1_000)
 
 
@@ -21,6 +22,11 @@ def dot(a, b):
     return sum(p * q for p, q in zip(a, b))
 
 
+def latitude(u):
+    """P = (3 sin^2 phi - 1)/2, and sin phi is uz."""
+    return (3 * u[2]**2 - 1) / 2
+
+
 def permanent(mark):
     """(14a) times u, plus (14b) northwards.
 
@@ -28,7 +34,7 @@ def permanent(mark):
     being the unit vector to the pole.
     """
     u = direction(mark, length(mark))
-    p = (3 * u[2]**2 - 1) / 2
+    p = latitude(u)
     radial = (Fraction(-1_206, 10_000) + Fraction(1, 10_000) * p) * p
     north = (Fraction(-252, 10_000) - Fraction(1, 10_000) * p) * 2 * u[2]
     pole = (0, 0, 1)
@@ -53,10 +59,16 @@ def displaced(k, u, d, radial, across):
     return tuple(METRE * k * (radial * u[i] + across * (d[i] - c * u[i])) for i in range(3))
 
 
-def degree_two(mark, label, vector):
-    """Formula (5) for one body."""
+def formula_five(mark, label, vector, love, shida):
+    """One body's degree two with a given h and l."""
     r, u, d, c = stand(mark, vector)
-    return displaced(factor(label, r), u, d, H2 * (3 * c**2 - 1) / 2, 3 * L2 * c)
+    return displaced(factor(label, r), u, d, love * (3 * c**2 - 1) / 2, 3 * shida * c)
+
+
+def degree_two(mark, label, vector):
+    """Formula (5) for one body, with h and l at the mark's latitude."""
+    p = latitude(direction(mark, length(mark)))
+    return formula_five(mark, label, vector, H2 + H2_SLOPE * p, L2 + L2_SLOPE * p)
 
 
 def degree_three(mark, moon):

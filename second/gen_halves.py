@@ -153,7 +153,7 @@ def old_cards(rng):
     back = {wire.MEAN_ON: (wire.MEAN_OFF,), wire.FRAME: (wire.FRAME, 0), wire.SOLID_ON: (wire.SOLID_OFF,)}
     made = [(mark, calls.mean_on, (wire.MEAN_ON,)) for mark in (MOST, MARKS[1][1][1], MARKS[3][1][1])]
     made += [(ROW_MARKS[n], calls.frame, (wire.FRAME, to)) for n, to in ((0, 1), (0, 2), (1, 2))]
-    made += [(mark, calls.solid_on, (wire.SOLID_ON, *pair(moon, sample.sun(rng)))) for mark, moon in list(half_bodies(MOON))[1:18:8]]
+    made += [(mark, calls.solid_on, (wire.SOLID_ON, *pair(moon, sample.sun(rng)))) for mark, moon in list(half_bodies(MOON))[:17:8]]
     for mark, call, entry in made:
         card = damage.moved_to(damage.base(rng), mark)._replace(frame=0, velocity=(1, -2, 3))
         old = by(away, call, card, *entry[1:])[1]

@@ -12,9 +12,10 @@ import wire
 from bodies import K0_3, MOON, R0, RANGE, SUN
 from card import SOLID
 from gen_unseen import AXIS, pair
-from rounding import E, near, root
+from halves import PART, kinds
+from rounding import E, near
 from solid import degree_three, degree_two, displaced, part, stand, tide
-from units import ZERO, plus, times
+from units import plus
 
 # The squares of a Moon's parts along the mark and across it; a minus: opposite to the mark. Overhead, opposite, at right angles, then where the
 # radial part is zero (c c = 3/5) and where the part across is (c c = 1/5).
@@ -33,9 +34,9 @@ HALVES = (
     ("t", 1, (204_399_947, 354_031_094, 0)), ("t", -1, (0, 365_839_986, 0)), ("t", -1, (89_419_458, 346_320_072, 0)),
     ("y", 1, (309_967_808, 178_959_997, 0)), ("y", -1, (309_967_808, -178_959_997, 0)),
     ("y", -1, (42_408_886, 190_839_988, 327_812_736)), ("y", 1, (42_408_886, -190_839_988, 327_812_736)),
-    # a half in y of degree two as well, of the other kind: the two make up for each other (gen_halves has those that do not)
-    ("y", 1, (316_826_724, 182_919_994, 0)), ("y", -1, (333_454_358, -192_519_963, 0)),
 )
+# With a half in y of degree two as well, of the other kind: the two make up for each other (gen_halves has those that do not).
+MADE_UP = (("y", 1, (316_826_724, 182_919_994, 0)), ("y", -1, (327_467_944, -189_063_705, 0)))
 
 # Moons (metres) where the last grain at AXIS hangs on how a step is made, and the altered version (second/altered.py) that they show.
 NARROW = (
@@ -57,10 +58,13 @@ def steps(moon):
 
 
 def special_moons():
-    for step, sign, moon in HALVES:
+    for step, sign, moon in HALVES + MADE_UP:
         a, b = steps(moon)[step]
         assert a * sign % b * 2 == b and a * sign > 0, (step, moon)
         yield moon
+    for *_, moon in MADE_UP:
+        found = dict(zip(PART, kinds(part, AXIS, MOON, moon)))
+        assert {found["y"][1:], found["y3"][1:]} == {"even", "odd"} and part(AXIS, MOON, moon) == together(stand(AXIS, MOON, moon)), moon
     for _, moon in NARROW:
         yield moon
 
@@ -70,18 +74,11 @@ def turned(v):
     return v[1], v[2], -v[0]
 
 
-def aimed(mark, square, aside, size):
-    """A Moon at size metres whose parts along the mark and across it have these squares."""
-    up = sample.along(times(mark, square), root(abs(square) << 60)) if square else ZERO
-    out = sample.along(sample.across(mark), root(aside << 60)) if aside else ZERO
-    return sample.along(plus(up, out), size)
-
-
 def placed_moons(mark):
     """At the least and at the greatest distance, each of PLACES."""
     for size in RANGE[MOON]:
         for square, aside in PLACES:
-            yield aimed(mark, square, aside, size)
+            yield sample.aimed(mark, square, aside, size)
 
 
 def together(s):
@@ -136,7 +133,7 @@ def series(rng):
     yield in_rows(rng, turned(AXIS), map(turned, special_moons()))
     for size in RANGE[MOON]:  # down the sky from overhead, and up to the horizon from below
         mark = sample.mark(rng)
-        yield in_rows(rng, mark, [aimed(mark, sign * (8 - n), n, size) for sign in (1, -1) for n in range(8)])
+        yield in_rows(rng, mark, [sample.aimed(mark, sign * (8 - n), n, size) for sign in (1, -1) for n in range(8)])
     yield in_rows(rng, AXIS, [(R0[MOON], 0, 0)])
 
 
@@ -153,23 +150,33 @@ def solid_calls(rng):
             card, on, _ = solid_on(rng, mark, moon)
             yield gen_calls.payload(card, on, *(off, on) * (n % 2))
     for mark in (AXIS, sample.mark(rng)):
-        card, on, gain = solid_on(rng, mark, aimed(mark, 1, 0, RANGE[MOON][0]))
+        card, on, gain = solid_on(rng, mark, sample.aimed(mark, 1, 0, RANGE[MOON][0]))
         yield from gen_calls.about_edges(card, gain, on)
 
 
+def without_latitude(mark, label, body):
+    """A body's degree two as it was before h and l followed the mark's latitude: as where P is 0."""
+    s = stand(mark, label, body)._replace(lat=0)
+    return displaced(s, *degree_two(label, s))
+
+
+def kept_tide(rng, mark, moon, sun, stored):
+    """A card that stores an older tide: a frame change keeps it, solid off takes it away, and solid on then stores the tide of today."""
+    assert stored != tide(mark, moon, sun)
+    free = damage.moved_to(damage.base(rng), mark)
+    card = free._replace(tide=SOLID, position=plus(free.position, stored), vector=stored)
+    frame, on = wire.pack_call(wire.FRAME, (card.frame + 1) % 3), wire.pack_call(wire.SOLID_ON, *pair(moon, sun))
+    off = wire.pack_call(wire.SOLID_OFF)
+    for entries in ((frame,), (off,), (on,), (on, frame, off, on)):
+        yield gen_calls.payload(card, *entries)
+
+
 def old_cards(rng):
-    """Cards that store the tide of degree two alone: a frame change keeps it, solid off takes it away, and solid on then stores the whole tide."""
+    """Cards that store the tide of degree two alone."""
     for _ in range(5):
         mark, moon, sun = sample.mark(rng), sample.moon(rng), sample.sun(rng)
-        s = stand(mark, MOON, moon)
-        stored = plus(displaced(s, *degree_two(MOON, s)), part(mark, SUN, sun))
-        assert stored != tide(mark, moon, sun)
-        free = damage.moved_to(damage.base(rng), mark)
-        card = free._replace(tide=SOLID, position=plus(free.position, stored), vector=stored)
-        frame, on = wire.pack_call(wire.FRAME, (card.frame + 1) % 3), wire.pack_call(wire.SOLID_ON, *pair(moon, sun))
-        off = wire.pack_call(wire.SOLID_OFF)
-        for entries in ((frame,), (off,), (on,), (on, frame, off, on)):
-            yield gen_calls.payload(card, *entries)
+        stored = plus(without_latitude(mark, MOON, moon), without_latitude(mark, SUN, sun))
+        yield from kept_tide(rng, mark, moon, sun, stored)
 
 
 def payloads(rng):

@@ -14,16 +14,17 @@ import wire
 from bodies import MOON, SUN
 from card import EPOCH_MOST
 from gen_bodies import NAN, doubles
+from halves import PART, kinds
 from mark import unit
 from permanent import SLOPE
 from rounding import E
-from solid import tide
+from solid import part, tide
 from units import ZERO
 
 AXIS = (6_378_137, 0, 0)             # the mark of case 2, metres
 SIXTY = (3_189_068, 0, 5_523_628)    # a mark with half of L in x
 # A Moon (metres) and a Sun (kilometres) whose parts at AXIS cancel in every grain: one stands low where the other stands high, on opposite sides.
-LOW_MOON, HIGH_SUN = (100_454_458, 396_874_155, 0), (130_911_064, -65_761_268, 0)
+LOW_MOON, HIGH_SUN = (100_454_602, 396_874_283, 0), (130_911_278, -65_761_359, 0)
 
 
 def half_marks():
@@ -54,14 +55,14 @@ def pair(moon, sun):
 
 
 def half_steps():
-    """Marks and Moons (metres) with a half in one step of the Moon's degree two, and the step."""
-    yield AXIS, (384_403_904, 0, 0), "H"
-    yield AXIS, (270_001_628, 270_000_000, 0), "S"
-    yield AXIS, (0, 384_400_001, 0), "rho: c is 0, and H is odd"
-    yield AXIS, (192_200_000, 332_900_166, 0), "t: c is half of E, and S is odd"
-    yield AXIS, (332_900_166, 192_200_000, 0), "the last, in y: d is half of E, and t is odd"
+    """Marks and Moons (metres) with a half in one step of the Moon's degree two, and the step as halves.py names it."""
+    yield AXIS, (384_413_082, 0, 0), "H"
+    yield AXIS, (270_053_023, 270_000_000, 0), "S"
+    yield AXIS, (0, 384_400_000, 0), "rho: c is 0, and H is odd"
+    yield AXIS, (192_200_006, 332_900_176, 0), "t: c is half of E, and S is odd"
+    yield AXIS, (332_900_167, 192_200_001, 0), "y: the last step; d is half of E, and t is odd"
     yield SIXTY, (200_000_009, 330_000_000, 0), "c: u is half of E, and d is odd"
-    yield SIXTY, (200_000_025, 330_000_000, 0), "c u: u is half of E, and c is odd"
+    yield SIXTY, (200_000_029, 330_000_000, 0), "along-x: c u; u is half of E, and c is odd"
 
 
 def far_and_nan(rng):
@@ -72,7 +73,8 @@ def far_and_nan(rng):
 
 
 def pairs(rng):
-    for mark, moon, _ in half_steps():
+    for mark, moon, step in half_steps():
+        assert kinds(part, mark, MOON, moon)[PART.index(step.split(":")[0])], step
         yield mark, *pair(moon, sample.sun(rng))
     assert tide(AXIS, LOW_MOON, HIGH_SUN) == ZERO
     yield AXIS, *pair(LOW_MOON, HIGH_SUN)

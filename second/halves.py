@@ -10,7 +10,7 @@ STEPPED = (mark, permanent, frames, solid)  # the files whose steps are rounded
 
 # The steps that near rounds, in order: of a permanent shift, and of a body's part of the tide. The Moon's part has its third degree too, named with a 3.
 SHIFT = "ux uy uz s2 P e A w x y z".split()
-PART = ("ux uy uz dx dy dz c q q2 c2 q3 K p H rho S t along-x x along-y y along-z z"
+PART = ("ux uy uz dx dy dz c q q2 c2 q3 s2 P K p H rho S t along-x x along-y y along-z z"
         " q4 K3 c3 p3 v H3 rho3 S3 t3 along-x3 x3 along-y3 y3 along-z3 z3").split()
 
 

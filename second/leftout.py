@@ -1,6 +1,7 @@
 """Parts of Step 1 of Chapter 7 (source 000) beside degree two, metres.
 
-Our solid tide leaves them out, but for the Moon's third degree.
+Our solid tide leaves them out, but for the Moon's third degree and the latitude part of
+h and l; these two are here as a second writing, which published.py holds against exact.py.
 
 Exact fractions. Unit vectors are the vectors over their whole lengths. North
 and east are irrational by themselves, but every product below is rational:

@@ -99,7 +99,7 @@ for name, m, v, w in CASES:
 unfolding floors
 permanent-{name} = refl
 """)
-p("-- ---- the solid tide: degree two of both bodies, degree three of the Moon\n")
+p("-- ---- the solid tide: degree two of both bodies with h and l at the mark's latitude, degree three of the Moon\n")
 for name, m, v, w in CASES:
     assert bodies.in_range(bodies.MOON, v) and bodies.in_range(bodies.SUN, w)
     L, R, S = mark.length(m), bodies.distance(v), bodies.distance(w)

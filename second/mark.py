@@ -1,4 +1,4 @@
-"""The mark: its accepted length and its unit vector scaled by E."""
+"""The mark: its accepted length; its unit vector and P of its latitude, scaled by E."""
 
 from rounding import E, near, root
 
@@ -19,3 +19,9 @@ def unit(mark):
     """u = near(m E / L) for each component."""
     size = length(mark)
     return tuple(near(m * E, size) for m in mark)
+
+
+def latitude(uz):
+    """s2 and P of a mark's latitude phi: sin^2 phi, and (3 sin^2 phi - 1)/2; sin phi is uz."""
+    s2 = near(uz * uz, E)
+    return s2, near(3 * s2 - E, 2)

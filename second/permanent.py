@@ -4,7 +4,7 @@ Chapter 7, formulas (14a) and (14b): radial (-0.1206 + 0.0001 P) P and north
 (-0.0252 - 0.0001 P) sin 2 phi, metres. Both source 000 and 003 print these.
 """
 
-from mark import unit
+from mark import latitude, unit
 from rounding import E, near
 
 RADIAL = 176_196_600  # 0.1206 m in grains
@@ -14,8 +14,7 @@ SLOPE = 146_100       # 0.0001 m in grains
 
 def shift(mark):
     ux, uy, uz = unit(mark)
-    s2 = near(uz * uz, E)
-    p = near(3 * s2 - E, 2)
+    s2, p = latitude(uz)
     e = near(SLOPE * p, E)
     a = near((e - RADIAL) * p, E)
     t = -NORTH - e

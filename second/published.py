@@ -8,15 +8,17 @@ vectors to whole metres and kilometres.
 import sys
 from fractions import Fraction
 
+import exact
+import increments
 import leftout
 from bodies import MOON, SUN, judge
-from exact import degree_three, dot
+from exact import dot
 from frequency import step_two
 from metres import quotient_bits
 from rounding import near, root
 from solid import pair_tide
 from tally import Tally
-from units import METRE
+from units import METRE, minus, plus, times
 
 LIMIT = 150  # grains
 
@@ -65,12 +67,17 @@ def moons_third():
     return leftout.degree_three(leftout.Place(mark, MOON, moon))
 
 
+def of_latitude():
+    """What latitude adds to degree two of both bodies, metres."""
+    return leftout.both(leftout.latitude, *whole_case())
+
+
 def left_out():
     """Of the published displacement what our solid tide is without, metres.
 
-    BESIDE_TWO is all of it but degree two; the Moon's third degree is ours too.
+    BESIDE_TWO is all of it but degree two with one h and l everywhere; the Moon's third degree and the latitude of h and l are ours too.
     """
-    return tuple(p - q for p, q in zip(exactly(BESIDE_TWO), moons_third()))
+    return tuple(a - b - c for a, b, c in zip(exactly(BESIDE_TWO), moons_third(), of_latitude()))
 
 
 def tide_case(t):
@@ -79,13 +86,19 @@ def tide_case(t):
     number, got = pair_tide(mark, moon, sun)
     t.same("accepted", number, 0)
     t.same("either order", pair_tide(mark, sun, moon), (number, got))
-    t.same("third degree, written twice", degree_three(mark, whole_moon),
-           tuple(v * METRE for v in moons_third()))
+    t.same("third degree, written twice", exact.degree_three(mark, whole_moon), times(moons_third(), METRE))
     wanted = [(p - q) * METRE for p, q in zip(exactly(PUBLISHED), left_out())]
     gaps = [a - b for a, b in zip(got, wanted)]
     print("grains off the published values:", *(near(g.numerator, g.denominator) for g in gaps))
     for axis, gap in zip("xyz", gaps):
         t.true(f"{axis} within {LIMIT} grains", abs(gap) <= LIMIT)
+
+
+def latitude_twice(t):
+    """What latitude adds, by both writings: degree two of both bodies with h and l at the mark's latitude, less that with one h and l everywhere."""
+    for mark, *both in (whole_case(), *increments.worst_places(), *increments.any_places()):
+        added = [minus(exact.degree_two(mark, *body), exact.formula_five(mark, *body, exact.H2, exact.L2)) for body in enumerate(both)]
+        t.same(f"latitude, written twice, {mark}", plus(*added), times(leftout.both(leftout.latitude, mark, *both), METRE))
 
 
 def micrometres(vector):
@@ -104,10 +117,10 @@ def shares(t):
     whole = left_out()
     mark, moon, sun = whole_case()
     print("the Moon's third degree, ours, micrometres:", micrometres(moons_third()))
+    print("the latitude of h and l, ours, micrometres:", micrometres(of_latitude()))
     print("left out in all, micrometres:", micrometres(whole))
     found = {
         "third degree of the Sun": leftout.degree_three(leftout.Place(mark, SUN, sun)),
-        "latitude of h and l": leftout.both(leftout.latitude, mark, moon, sun),
         "l(1)": leftout.both(leftout.l_one, mark, moon, sun),
         "out of phase": leftout.both(leftout.out_of_phase, mark, moon, sun),
         "Step 2, tables of 000": step_two(leftout.Place(mark, MOON, moon), DAYS, TT_MINUS_UT),
@@ -131,7 +144,9 @@ def far_case(t):
 def main():
     t = Tally("published values")
     tide_case(t)
+    latitude_twice(t)
     shares(t)
+    increments.check(t)
     far_case(t)
     return t.close()
 

@@ -1,6 +1,9 @@
 """Checks the steps with no half, or with few, over every accepted distance and every uz from 0 to E: the reasons given in alterations.py.
 
 first x second / E is a half when the two have 29 factors of two together. So one of them has many, and few numbers need to be tried.
+
+H and S of degree two are halves where (6,078 E - 6 P) K and (847 E + 2 P) K are odd multiples of 5,000 E, which has 33 factors of two. Where P has
+fewer than 29, the first factor has one more than P. So P and K need 32 together, and K has no more than is found here.
 """
 
 import sys
@@ -21,13 +24,16 @@ def where(f, values, wanted):
         yield value
 
 
+def multiples(f, values, many):
+    """The values for which f is a multiple of many."""
+    for wanted in range(-(-f(values[0]) // many) * many, f(values[-1]) + 1, many):
+        yield from where(f, values, wanted)
+
+
 def half_products(first, second, values, factors):
     """The values that make first x second / E a half; first has this many factors of two, or second all others and one more."""
-    found = set()
-    for f, many in ((first, 1 << factors), (second, 1 << 30 - factors)):
-        for wanted in range(-(-f(values[0]) // many) * many, f(values[-1]) + 1, many):
-            found.update(v for v in where(f, values, wanted) if kind_of(first(v) * second(v), E))
-    return found
+    both = (first, 1 << factors), (second, 1 << 30 - factors)
+    return {v for f, many in both for v in multiples(f, values, many) if kind_of(first(v) * second(v), E)}
 
 
 def distances(t, label):
@@ -45,6 +51,11 @@ def distances(t, label):
     def q4(r):
         return near(q3(r) * q(r), E)
 
+    def k(r):
+        return near(K0[label] * q3(r), E)
+
+    twos = next(n for n in reversed(range(30)) if any(multiples(k, far_first, 1 << n)))
+    t.same("factors of two in K", twos, {MOON: 26, SUN: 25}[label])
     t.same("q3", half_products(q2, q, far_first, 15), set())
     t.same("K", half_products(q3, lambda r: K0[label], far_first, 26), set())
     if label == MOON:
@@ -65,11 +76,23 @@ def directions(t):
     t.same("w", (len(found), {kind for _, kind in found}), (7, {"-even"}))
 
 
+def love_numbers(t):
+    """H and S where P has 29 factors of two or more, from the equator to a pole: halves where K is an odd multiple of what stands there, of H and of S.
+
+    20,000 stands where there is none: all K are like those below it.
+    """
+    for p, *wanted in ((-E // 2, 5_000, 2_500), (0, 2_500, 5_000), (E // 2, 200, 20_000), (E, 625, 5_000)):
+        for name, scaled, odd in zip("HS", (6_078 * E - 6 * p, 847 * E + 2 * p), wanted):
+            found = [k for k in range(20_000) if kind_of(scaled * k, 10_000 * E)]
+            t.same(f"{name} where P is {p}", found, list(range(odd, 20_000, 2 * odd)))
+
+
 def main():
     t = Tally("steps with no half, or with few")
     distances(t, MOON)
     distances(t, SUN)
     directions(t)
+    love_numbers(t)
     return t.close()
 
 

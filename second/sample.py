@@ -41,6 +41,13 @@ def across(vector):
     return (-y, x, 0) if x or y else (z, 0, 0)
 
 
+def aimed(mark, square, aside, size):
+    """A body at this distance whose parts along the mark and across it have these squares; a minus: opposite to the mark."""
+    up = along(times(mark, square), root(abs(square) << 60)) if square else ZERO
+    out = along(across(mark), root(aside << 60)) if aside else ZERO
+    return along(plus(up, out), size)
+
+
 def mark(rng):
     return of_length(rng, L_LEAST, L_MOST, length)
 

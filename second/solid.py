@@ -1,25 +1,27 @@
 """The solid tide of one body and of a pair, grains.
 
-Degree two of both bodies is formula (5) of Chapter 7 (source 000) with h = 0.6078
-and l = 0.0847, degree three of the Moon formula (6) with h = 0.292 and l = 0.015.
+Degree two of both bodies is formula (5) of Chapter 7 (source 000) with h and l that
+follow the mark's latitude: h = 0.6078 - 0.0006 P and l = 0.0847 + 0.0002 P. Degree three
+of the Moon is formula (6) with h = 0.292 and l = 0.015 everywhere.
 """
 
 from typing import NamedTuple
 
 from bodies import K0, K0_3, MOON, R0, SUN, distance, judge, order_pair
-from mark import unit
+from mark import latitude, unit
 from rounding import E, near
 from units import ZERO, plus
 
 
 class Stand(NamedTuple):
-    """How a body stands to a mark, all scaled by E: what both degrees start from."""
+    """A mark and how a body stands to it, all scaled by E: what the degrees start from."""
     u: tuple  # to the mark
     d: tuple  # to the body
     c: int    # cosine of the angle between them
     c2: int   # its square
     q: int    # R0 / R
     q3: int   # its cube
+    lat: int  # P of the mark's latitude
 
 
 def stand(mark, label, vector):
@@ -30,15 +32,18 @@ def stand(mark, label, vector):
     c = near(sum(a * b for a, b in zip(u, d)), E)
     q = near(R0[label] * E, r)
     q2 = near(q * q, E)
-    return Stand(u, d, c, near(c * c, E), q, near(q2 * q, E))
+    return Stand(u, d, c, near(c * c, E), q, near(q2 * q, E), latitude(u[2])[1])
 
 
 def degree_two(label, s):
-    """(rho, t) of formula (5), grains: along the mark, and across it towards the body."""
+    """(rho, t) of formula (5), grains: along the mark, and across it towards the body.
+
+    h and l are exact until K is in: scaled by 10,000 E, they are 6,078 E - 6 P and 847 E + 2 P.
+    """
     k = near(K0[label] * s.q3, E)
     p = near(3 * s.c2 - E, 2)
-    rho = near(near(6_078 * k, 10_000) * p, E)
-    t = 3 * near(near(847 * k, 10_000) * s.c, E)
+    rho = near(near((6_078 * E - 6 * s.lat) * k, 10_000 * E) * p, E)
+    t = 3 * near(near((847 * E + 2 * s.lat) * k, 10_000 * E) * s.c, E)
     return rho, t
 
 

@@ -15,6 +15,7 @@ import field
 import gen_bodies
 import gen_catalogue
 import gen_halves
+import gen_latitude
 import half_places
 import sample
 from bodies import MOON, SUN
@@ -217,6 +218,19 @@ def half_lines(rng):
             series_line(half_places.AXIS, [*moon[1], *sun[1]], 3)
 
 
+def latitude_lines(rng):
+    """Where h and l follow the latitude: marks from pole to pole under Moons and Suns in every place, and exact halves in P, H and S."""
+    for turn, mark in enumerate(gen_latitude.known_marks()):
+        record = to_bytes(damage.moved_to(damage.base(rng), mark))
+        rows = [tuple(map(gen_bodies.doubles, both)) for both in gen_latitude.standings(mark, turn)]
+        series_line(mark, [bits for moon, sun in rows for bits in (*moon, *sun)], 3 * len(rows))
+        for moon, sun in rows:
+            solid_line(record, SIZE, (MOON, moon), (SUN, sun))
+    for mark, label, body in gen_latitude.half_bodies():
+        record = to_bytes(damage.moved_to(damage.base(rng), mark))
+        solid_line(record, SIZE, *gen_halves.beside(rng, label, gen_bodies.doubles(body)))
+
+
 def main():
     rng = Chance(2026)
     for record in records(rng):
@@ -229,6 +243,7 @@ def main():
     find_lines(rng)
     check_lines(rng)
     half_lines(rng)
+    latitude_lines(rng)
 
 
 main()

@@ -52,9 +52,14 @@ pub record StandingErrors (u d q : ℕ) : Type 0 where
 abbrev pub displacement : {u d q : ℕ} → StandingErrors u d q → ℕ → ℕ → ℕ → ℕ → ℕ
 displacement {u} {d} b rho up t side = rounded (product rho up u E + product t side (d + b .v) (2 * E + 183)) E
 
--- degree two. The sizes, in grains: of K0 523,578,453, K 693,629,844, H 421,588,221, S 58,750,449, rho 421,590,000 and t 176,260,000. K0 is off by
--- a half
+-- h or l, scaled by 10,000 E: exact but for n ten thousandths of P, whose error is p
+abbrev pub byLatitude : ℕ → ℕ → ℕ
+byLatitude n p = product 0 n p (E + 548)
+
+-- degree two. The sizes, in grains: of K0 523,578,453, K 693,629,844, H 422,073,761, S 58,958,538, rho 422,075,000 and t 176,880,000; of h and l, scaled by
+-- 10,000 E, 6,085 E and 850 E. K0 is off by a half
 pub record TwoErrors {u d q : ℕ} (b : StandingErrors u d q) : Type 0 where
+  pub latitude : HeightErrors u
   pub k : ℕ
   pub h : ℕ
   pub s : ℕ
@@ -62,11 +67,11 @@ pub record TwoErrors {u d q : ℕ} (b : StandingErrors u d q) : Type 0 where
   pub t : ℕ
   pub x : ℕ
   pub k-ok : rounded (product 500 523578453 (b .q3) 1422479040) E ≤ k
-  pub h-ok : rounded (product 0 6078 k 693629844) 10000 ≤ h
-  pub s-ok : rounded (product 0 847 k 693629844) 10000 ≤ s
-  pub rho-ok : rounded (product h 421588221 (b .height .p) (E + 548)) E ≤ rho
-  pub t-ok : rounded (product s 58750449 (b .c) (E + 182)) E ≤ t
-  pub x-ok : displacement b rho 421590000 (3 * t) 176260000 ≤ x
+  pub h-ok : rounded (product (byLatitude 6 (latitude .p)) (6085 * E) k 693629844) (10000 * E) ≤ h
+  pub s-ok : rounded (product (byLatitude 2 (latitude .p)) (850 * E) k 693629844) (10000 * E) ≤ s
+  pub rho-ok : rounded (product h 422073761 (b .height .p) (E + 548)) E ≤ rho
+  pub t-ok : rounded (product s 58958538 (b .c) (E + 182)) E ≤ t
+  pub x-ok : displacement b rho 422075000 (3 * t) 176880000 ≤ x
 
 -- degree three of the Moon. The sizes, in grains: of K0₃ 8,687,448, K3 12,640,189, H 3,690,936, S 189,603, rho 14,763,750 and t 1,706,428; in units of
 -- 1/E: of q4 1,562,288,410, c3 E + 548, p 4 E + 1,644 and v, here `slope`, 9 E + 2,738. K0₃ is off by a half
@@ -94,10 +99,14 @@ pub record ThreeErrors {u d q : ℕ} (b : StandingErrors u d q) : Type 0 where
 
 -- ---- at the whole distances: each component of a unit vector is off by a half
 
+-- P of the mark
+abbrev whole-latitude : HeightErrors 500
+whole-latitude = record { s2 = 1502; p = 2754; s2-ok = lit≤ tt; p-ok = lit≤ tt }
+
 unfoldable pub whole-permanent : PermanentErrors 500
 whole-permanent =
     record {
-      height = record { s2 = 1502; p = 2754; s2-ok = lit≤ tt; p-ok = lit≤ tt };
+      height = whole-latitude;
       e = 502;
       a = 1500;
       w = 1100;
@@ -128,6 +137,7 @@ unfoldable pub whole-two : TwoErrors whole-standing
 unfolding whole-standing
 whole-two =
     record {
+      latitude = whole-latitude;
       k = 2600;
       h = 2100;
       s = 730;

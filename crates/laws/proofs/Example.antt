@@ -1,7 +1,9 @@
 -- The theorems are not empty: a valid card, and a list of calls on it of which some are accepted and some refused.
 use mathlib.Core.Path.{_≡_, refl}
+use mathlib.Core.Bool.{Bool, true, false, cond}
 use mathlib.Core.List.{List, [], _∷_, _++_}
-use Prim.Native.Nat.{ℕ}
+use Prim.Native.Nat.{ℕ, _+_}
+use lib.Dec.{eqb}
 use lib.IntN.{pos, negℤ}
 use lib.Ieee.{ofBits, binary64}
 use Rattle.refusal.specs.Refusal.{first}
@@ -12,11 +14,11 @@ use Rattle.mark.specs.declared.Vec3.{Vec3}
 use Rattle.mark.specs.Mark.{vec, nowhere, squares, lengthOf, marked, plus, sized, minus, scaled}
 use Rattle.frames.specs.Frame.{knownFrame, rowOf, offset, drift, frameA, frameB, frameAt, frameShift, frameGain}
 use Rattle.tides.specs.Direction.{times, unit, legendre}
-use Rattle.tides.specs.Permanent.{s2, small, radial, north, down, across, along, permanentOf, permanent}
+use Rattle.tides.specs.Permanent.{s2, latitude, small, radial, north, down, across, along, permanentOf, permanent}
 use Rattle.tides.specs.declared.Body.{Body}
 use Rattle.tides.specs.declared.Body.the-variants.{Moon, Sun}
 use Rattle.tides.specs.Bodies.{wholes, finite, inReach, paired, moonOf, sunOf}
-use Rattle.tides.specs.Tide.{nearness, cosine, standing, cube, component, displaced, strength, height, upward, sideways, degreeTwo, fourth, strengthThree, heightThree, slopeThree, upShareThree, sideShareThree, upwardThree, sidewaysThree, degreeThree, moonPart, sunPart, tideAt, tide}
+use Rattle.tides.specs.Tide.{nearness, cosine, standing, cube, component, displaced, strength, height, love, shida, upShare, sideShare, upward, sideways, degreeTwo, fourth, strengthThree, heightThree, slopeThree, upShareThree, sideShareThree, upwardThree, sidewaysThree, degreeThree, moonPart, sunPart, tideAt, tide}
 use Rattle.head.specs.State.{stateOf, withState, stateFits}
 use Rattle.head.specs.Head.{digit, shapeAt, shapeFrom, siteShape, epochFits}
 use Rattle.card.specs.declared.Card.{Card}
@@ -37,11 +39,11 @@ unfolding knownFrame marked lengthOf squares root rootIn refine plus minus scale
 marking = 0
 
 unfoldable shifting : ℕ
-unfolding nearest near times unit s2 legendre small radial north down across along permanentOf permanent rowOf offset drift frameA frameB frameAt frameShift frameGain
+unfolding nearest near times unit s2 legendre latitude small radial north down across along permanentOf permanent rowOf offset drift frameA frameB frameAt frameShift frameGain
 shifting = 0
 
 unfoldable tiding : ℕ
-unfolding ofBits wholeOf wholes finite inReach paired moonOf sunOf nearness cosine standing cube component displaced strength height upward sideways degreeTwo fourth strengthThree heightThree slopeThree upShareThree sideShareThree upwardThree sidewaysThree degreeThree moonPart sunPart tideAt tide
+unfolding ofBits wholeOf wholes finite inReach paired moonOf sunOf nearness cosine standing cube component displaced strength height love shida upShare sideShare upward sideways degreeTwo fourth strengthThree heightThree slopeThree upShareThree sideShareThree upwardThree sidewaysThree degreeThree moonPart sunPart tideAt tide
 tiding = 0
 
 unfoldable pub computing : ℕ
@@ -87,10 +89,10 @@ abbrev laterIn : ℕ → ℕ → Vec3 → Vec3 → Vec3 → Card
 laterIn g byte v p t =
     record { site = example .site; frame = g; tide = byte; epoch = pos 1461; mark = example .mark; velocity = v; position = p; solid = t }
 
--- a year of 20,000 micrometres is 29,220,000 grains; ITRF2005 adds 5,837,351 + 300 x 1,461 in x; the tide is 247,695,244 in x, 2,536,735 of it of degree three
+-- a year of 20,000 micrometres is 29,220,000 grains; ITRF2005 adds 5,837,351 + 300 x 1,461 in x; the tide is 247,816,250 in x, 2,536,735 of it of degree three
 pub example-tided :
     run example untilTide
-    ≡ laterIn 1 2 (vec (pos 20300) (pos 0) (pos 0)) (vec (pos 9318458440190895) (negℤ (pos 1314900)) (negℤ (pos 6866700))) (vec (pos 247695244) (pos 0) (pos 0))
+    ≡ laterIn 1 2 (vec (pos 20300) (pos 0) (pos 0)) (vec (pos 9318458440311901) (negℤ (pos 1314900)) (negℤ (pos 6866700))) (vec (pos 247816250) (pos 0) (pos 0))
 unfolding run computing
 example-tided = refl
 
@@ -101,17 +103,23 @@ pub example-run :
 unfolding run computing
 example-run = refl
 
--- the card under the tide as it was stored before degree three, 245,158,509 in x: it keeps what it stores, and ends as the other
-abbrev pub older : Card
-older = laterIn 1 2 (vec (pos 20300) (pos 0) (pos 0)) (vec (pos 9318458437654160) (negℤ (pos 1314900)) (negℤ (pos 6866700))) (vec (pos 245158509) (pos 0) (pos 0))
+-- a frame change keeps the vector that a card stores, whatever rule it was made by
+pub older-keeps : (c : Card) (g : ℕ) → step c (frame g) .card .solid ≡ c .solid
+unfolding step settle next reframed
+older-keeps c g = either (eqb (callNumber c (frame g)) 0)
+  where
+    either : (b : Bool) → cond b (reframed g c) c .solid ≡ c .solid
+    either true = refl
+    either false = refl
 
-pub older-keeps : step older (frame 2) .card .solid ≡ older .solid
-unfolding computing
-older-keeps = refl
+-- the card under another tide, t grains in x, as it was stored
+abbrev pub older : ℕ → Card
+older t = laterIn 1 2 (vec (pos 20300) (pos 0) (pos 0)) (vec (pos (9318458192495651 + t)) (negℤ (pos 1314900)) (negℤ (pos 6866700))) (vec (pos t) (pos 0) (pos 0))
 
-pub older-run : run older afterTide ≡ run example calls
+-- 245,158,509 before degree three, and 247,695,244 before h and l followed the latitude: each ends as the card of today
+pub older-run : (run (older 245158509) afterTide ≡ run example calls) × (run (older 247695244) afterTide ≡ run example calls)
 unfolding run computing
-older-run = refl
+older-run = (refl, refl)
 
 -- ---- a list that a card and its field edition accept in full, and how far apart they end
 

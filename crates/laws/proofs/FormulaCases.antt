@@ -161,34 +161,34 @@ pub permanent-south :
 unfolding floors
 permanent-south = refl
 
--- ---- the solid tide: degree two of both bodies, degree three of the Moon
+-- ---- the solid tide: degree two of both bodies with h and l at the mark's latitude, degree three of the Moon
 
 pub solid-equator :
     floors (solidFormula equator (wholly 6378137 (lit< tt)) equator-moon (wholly 384400000 (lit< tt)) equator-sun (wholly 149597870 (lit< tt)))
-    ≡ vec (pos 466912667878794926) (pos 0) (pos 0)
+    ≡ vec (pos 467141876138001821) (pos 0) (pos 0)
 unfolding floors
 solid-equator = refl
 
 pub solid-pole :
     floors (solidFormula pole (wholly 6356752 (lit< tt)) pole-moon (wholly 362491379 (lit< tt)) pole-sun (wholly 147309198 (lit< tt)))
-    ≡ vec (pos 23371729731438876) (negℤ (pos 35407275739930700)) (negℤ (pos 104419377186843216))
+    ≡ vec (pos 23426884709654571) (negℤ (pos 35490841926869462)) (negℤ (pos 104317708924981109))
 unfolding floors
 solid-pole = refl
 
 pub solid-east :
     floors (solidFormula east (wholly 6366612 (lit< tt)) east-moon (wholly 398364046 (lit< tt)) east-sun (wholly 149995807 (lit< tt)))
-    ≡ vec (pos 105595108917154873) (pos 89911693054898099) (pos 72504485220230200)
+    ≡ vec (pos 105580702283654727) (pos 89963403223824012) (pos 72444204853607509)
 unfolding floors
 solid-east = refl
 
 pub solid-west :
     floors (solidFormula west (wholly 6368503 (lit< tt)) west-moon (wholly 404888734 (lit< tt)) west-sun (wholly 152072442 (lit< tt)))
-    ≡ vec (negℤ (pos 30967467226899780)) (pos 91777584460227595) (negℤ (pos 118581585588116947))
+    ≡ vec (negℤ (pos 30966026383394132)) (pos 91762918100209888) (negℤ (pos 118578502932781210))
 unfolding floors
 solid-west = refl
 
 pub solid-south :
     floors (solidFormula south (wholly 6363961 (lit< tt)) south-moon (wholly 350000000 (lit< tt)) south-sun (wholly 146000000 (lit< tt)))
-    ≡ vec (pos 23586932442200688) (negℤ (pos 7766756510874082)) (negℤ (pos 46104221058181631))
+    ≡ vec (pos 23575114523272389) (negℤ (pos 7759805595583156)) (negℤ (pos 46085604778943713))
 unfolding floors
 solid-south = refl

@@ -14,12 +14,11 @@ use Rattle.algebra.proofs.Rearranged.{across-same, along-same}
 use Rattle.mark.specs.declared.Vec3.{Vec3}
 use Rattle.mark.specs.Mark.{lengthOf, marked}
 use Rattle.tides.specs.Direction.{E, units, legendre}
-use Rattle.tides.specs.Permanent.{s2, small, radial, north, down, across, along, permanentOf, permanent}
-use Rattle.tides.specs.Tide.{height}
+use Rattle.tides.specs.Permanent.{s2, latitude, small, radial, north, down, across, along, permanentOf, permanent}
 use Rattle.laws.specs.Formulas.{bound, Vector, Close, metre, direction, P2, permanentAt, permanentFormula}
 use Rattle.laws.proofs.Distances.{mark-positive}
 use Rattle.laws.proofs.ErrorTables.{PermanentErrors, whole-permanent}
-use Rattle.laws.proofs.StepValues.{Stands, times-is, square-is, height-is, grains-is, whole-stands}
+use Rattle.laws.proofs.StepValues.{Stands, times-is, square-is, latitude-is, grains-is, whole-stands}
 use Rattle.laws.specs.Formulas as Exact
 
 -- ---- the paper's constants
@@ -59,8 +58,8 @@ module _ {n : ℕ} (table : PermanentErrors n) (u : Vec3) (r : Vector) (u-is : S
   s2-is = square-is (table .height) (u .z) (r .z) z-is
 
   P-is : Val E p P (table .height .p) (E + 548)
-  unfolding s2 height
-  P-is = height-is (table .height) (u .z) (r .z) z-is
+  unfolding latitude
+  P-is = latitude-is (table .height) u-is
 
   e-is : Val metre (small p) (ratio (pos 1) 10000 *ᶠ P) (table .e) 146101
   unfolding small
@@ -109,7 +108,7 @@ module _ {n : ℕ} (table : PermanentErrors n) (u : Vec3) (r : Vector) (u-is : S
 
   -- the shift from u lies within g grains of the formula at r̂
   pub permanent-chain : (g : ℕ) → table .x ≤ 1000 * g → table .z ≤ 1000 * g → Close g (permanentOf u) (Exact.grains (permanentAt r))
-  unfolding permanentOf
+  unfolding permanentOf latitude
   permanent-chain g hx hz =
       record {
         x = grains-is g (across-is (u .x) (r .x) (u-is .x)) hx;

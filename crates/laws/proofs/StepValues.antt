@@ -14,6 +14,7 @@ use Rattle.mark.specs.declared.Vec3.{Vec3}
 use Rattle.mark.specs.Mark.{lengthOf}
 use Rattle.mark.proofs.LengthLaws.{within-length}
 use Rattle.tides.specs.Direction.{E, times, unit, units, legendre}
+use Rattle.tides.specs.Permanent.{s2, latitude}
 use Rattle.tides.specs.Tide.{height}
 use Rattle.tides.proofs.DegreeTwoLaws.{square-bound, height-bound}
 use Rattle.laws.specs.Formulas.{Vector, direction, metre, P2}
@@ -31,12 +32,12 @@ pub times-is :
     → Val s x X e a → Val E y Y f b → rounded (product e a f b) E ≤ r → a * b / E + 1 ≤ n → Val s (times x y) (X *ᶠ Y) r n
 times-is {x = x} {y} v w off size = weakV (nearV (times-half x y) (lit< tt) (mulV v w)) off size
 
--- near(a k/d), where a/d is a fraction of the formulas and k grains
+-- near(x k/d), where x stands for a number of the formulas at the scale d, and k for grains
 pub share-is :
-    {a d : ℕ} {k : ℤ} {X K : Fraction} {e b r n : ℕ}
-    → Val d (pos a) X 0 a → Val metre k K e b → 0 < d → rounded (product 0 a e b) d ≤ r → a * b / d + 1 ≤ n → Val metre (near (pos a *ℤ k) d) (X *ᶠ K) r n
-share-is {a} {d} {k} {X} {K} {e} {b} v w p off size =
-    weakV (nearV (near-half (pos a *ℤ k) d p) p (subst (λ (s : ℕ). Val s (pos a *ℤ k) (X *ᶠ K) (product 0 a e b) (a * b)) (mul-comm d metre) (mulV v w)))
+    {d : ℕ} {x k : ℤ} {X K : Fraction} {f a e b r n : ℕ}
+    → Val d x X f a → Val metre k K e b → 0 < d → rounded (product f a e b) d ≤ r → a * b / d + 1 ≤ n → Val metre (near (x *ℤ k) d) (X *ᶠ K) r n
+share-is {d} {x} {k} {X} {K} {f} {a} {e} {b} v w p off size =
+    weakV (nearV (near-half (x *ℤ k) d p) p (subst (λ (s : ℕ). Val s (x *ℤ k) (X *ᶠ K) (product f a e b) (a * b)) (mul-comm d metre) (mulV v w)))
     off
     size
 
@@ -85,6 +86,11 @@ module _ {s : ℕ} (table : HeightErrors s) (c : ℤ) (X : Fraction) (c-is : Val
       (height-bound c (c-is .size)))
       (table .p-ok)
       (lit≤ tt)
+
+-- P of the mark, from its sine
+pub latitude-is : {n : ℕ} (table : HeightErrors n) {u : Vec3} {r : Vector} → Stands n u r → Val E (latitude u) (P2 (r .z)) (table .p) (E + 548)
+unfolding latitude s2 height
+latitude-is table {u} {r} u-is = height-is table (u .z) (r .z) (weakV (u-is .z) (omega arith) (lit≤ tt))
 
 -- ---- grains for metres
 

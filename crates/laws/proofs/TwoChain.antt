@@ -3,27 +3,37 @@ use Prim.Native.Nat.{ℕ, _+_, _*_, _≤_}
 use native.Mathlib.Omega.{arith}
 use lib.Dec.{lit<, lit≤}
 use lib.IntN.{ℤ, pos, natAbs, _*ℤ_}
-use Rattle.algebra.specs.Fraction.{Fraction, _≈_, _-ᶠ_, _*ᶠ_, _·ᶠ_}
-use Rattle.algebra.proofs.Error.{Val, ratioV, timesV, weakV, boundV, sameV}
+use Rattle.algebra.specs.Fraction.{Fraction, _≈_, ratio, _-ᶠ_, _*ᶠ_, _·ᶠ_}
+use Rattle.algebra.proofs.Error.{Val, ratioV, scaleV, mulV, plusV, minusV, timesV, weakV, boundV, sameV}
 use Rattle.algebra.proofs.Rearranged.{part-same}
-use Rattle.numbers.specs.Near.{near}
 use Rattle.mark.specs.declared.Vec3.{Vec3}
 use Rattle.tides.specs.declared.solid.Standing.{Standing}
 use Rattle.tides.specs.Direction.{E}
-use Rattle.tides.specs.Tide.{strength, height, upward, sideways}
+use Rattle.tides.specs.Permanent.{latitude}
+use Rattle.tides.specs.Tide.{strength, height, love, shida, upShare, sideShare, upward, sideways}
 use Rattle.tides.specs.Tide as Tide
 use Rattle.laws.specs.Formulas.{Vector, metre, dot, P2, h2, l2, degreeTwo}
-use Rattle.laws.proofs.ErrorTables.{StandingErrors, TwoErrors}
-use Rattle.laws.proofs.StepValues.{times-is, share-is, height-is}
+use Rattle.laws.proofs.ErrorTables.{product, byLatitude, StandingErrors, TwoErrors}
+use Rattle.laws.proofs.StepValues.{times-is, share-is, height-is, latitude-is}
 use Rattle.laws.proofs.BodyChain.{Metres, Placed, q3-is, c-is, displaced-is, same-is}
 
-h2-is : Val 10000 (pos 6078) h2 0 6078
-unfolding h2
-h2-is = ratioV (pos 6078) 10000 (lit< tt)
+-- h and l at the scale 10,000 E, from the mark's P
+module _ {p : ℤ} {P : Fraction} {e : ℕ} (p-is : Val E p P e (E + 548)) where
+  -- n ten thousandths
+  n-is : (n : ℕ) → Val (10000 * E) (pos n *ℤ pos E) (ratio (pos n) 10000) (0 * E) (n * E)
+  n-is n = scaleV E (ratioV (pos n) 10000 (lit< tt))
 
-l2-is : Val 10000 (pos 847) l2 0 847
-unfolding l2
-l2-is = ratioV (pos 847) 10000 (lit< tt)
+  -- of P
+  of-P : (n : ℕ) → Val (10000 * E) (pos n *ℤ p) (ratio (pos n) 10000 *ᶠ P) (product 0 n e (E + 548)) (n * (E + 548))
+  of-P n = mulV (ratioV (pos n) 10000 (lit< tt)) p-is
+
+  h2-is : Val (10000 * E) (love p) (h2 P) (byLatitude 6 e) (6085 * E)
+  unfolding h2 love
+  h2-is = weakV (minusV (n-is 6078) (of-P 6)) (omega arith) (lit≤ tt)
+
+  l2-is : Val (10000 * E) (shida p) (l2 P) (byLatitude 2 e) (850 * E)
+  unfolding l2 shida
+  l2-is = weakV (plusV (n-is 847) (of-P 2)) (omega arith) (lit≤ tt)
 
 module _
     {nu nd nq : ℕ} (table : StandingErrors nu nd nq) (two : TwoErrors table) {u : Vec3} {b : Standing} {r R : Vector} {Q : Fraction}
@@ -41,28 +51,39 @@ module _
   unfolding strength
   k-is = boundV (sameV K-same (times-is k0-is (q3-is table placed) (two .k-ok) (lit≤ {n = 693629850} tt))) K-small
 
+  abbrev lat : ℤ
+  lat = latitude u
+
+  abbrev P : Fraction
+  P = P2 (r .z)
+
+  lat-is : Val E lat P (two .latitude .p) (E + 548)
+  lat-is = latitude-is (two .latitude) (placed .u-is)
+
   p-is : Val E (height (b .c)) (P2 C) (table .height .p) (E + 548)
   p-is = height-is (table .height) (b .c) C (c-is table placed)
 
-  h-is : Val metre (near (pos 6078 *ℤ k) 10000) (h2 *ᶠ K) (two .h) 421588221
-  h-is = share-is h2-is k-is (lit< tt) (two .h-ok) (lit≤ tt)
+  h-is : Val metre (upShare lat k) (h2 P *ᶠ K) (two .h) 422073761
+  unfolding upShare
+  h-is = share-is (h2-is lat-is) k-is (lit< tt) (two .h-ok) (lit≤ tt)
 
-  s-is : Val metre (near (pos 847 *ℤ k) 10000) (l2 *ᶠ K) (two .s) 58750449
-  s-is = share-is l2-is k-is (lit< tt) (two .s-ok) (lit≤ tt)
+  s-is : Val metre (sideShare lat k) (l2 P *ᶠ K) (two .s) 58958538
+  unfolding sideShare
+  s-is = share-is (l2-is lat-is) k-is (lit< tt) (two .s-ok) (lit≤ tt)
 
-  rho-is : Val metre (upward k (b .c)) (h2 *ᶠ K *ᶠ P2 C) (two .rho) 421590000
+  rho-is : Val metre (upward lat k (b .c)) (h2 P *ᶠ K *ᶠ P2 C) (two .rho) 422075000
   unfolding upward
   rho-is = times-is h-is p-is (two .rho-ok) (lit≤ tt)
 
-  t-is : Val metre (sideways k (b .c)) (pos 3 ·ᶠ (l2 *ᶠ K *ᶠ C)) (3 * two .t) 176260000
+  t-is : Val metre (sideways lat k (b .c)) (pos 3 ·ᶠ (l2 P *ᶠ K *ᶠ C)) (3 * two .t) 176880000
   unfolding sideways
-  t-is = weakV (timesV (pos 3) (times-is s-is (c-is table placed) (two .t-ok) (lit≤ {n = 58752000} tt))) (omega arith) (lit≤ tt)
+  t-is = weakV (timesV (pos 3) (times-is s-is (c-is table placed) (two .t-ok) (lit≤ {n = 58960000} tt))) (omega arith) (lit≤ tt)
 
   pub two-is : Metres (two .x) 780000000 (Tide.degreeTwo k0 u b) (degreeTwo K r R)
   unfolding Tide.degreeTwo
   two-is =
       same-is
-      (part-same K h2 (P2 C) (r .x) l2 C (R .x -ᶠ C *ᶠ r .x))
-      (part-same K h2 (P2 C) (r .y) l2 C (R .y -ᶠ C *ᶠ r .y))
-      (part-same K h2 (P2 C) (r .z) l2 C (R .z -ᶠ C *ᶠ r .z))
+      (part-same K (h2 P) (P2 C) (r .x) (l2 P) C (R .x -ᶠ C *ᶠ r .x))
+      (part-same K (h2 P) (P2 C) (r .y) (l2 P) C (R .y -ᶠ C *ᶠ r .y))
+      (part-same K (h2 P) (P2 C) (r .z) (l2 P) C (R .z -ᶠ C *ᶠ r .z))
       (displaced-is table placed (two .x) 780000000 rho-is t-is (two .x-ok) (lit≤ tt))

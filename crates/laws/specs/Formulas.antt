@@ -120,19 +120,20 @@ strengthThreeAt gm R = gm *ᶠ (Re *ᶠ Re *ᶠ Re *ᶠ Re *ᶠ Re) ÷ᶠ R ÷�
 
 -- ---- degree two
 
--- h2 = 0.6078, upward
-unfoldable pub h2 : Fraction
-h2 = ratio (pos 6078) 10000
+-- h2 = 0.6078 - 0.0006 P, upward
+unfoldable pub h2 : Fraction → Fraction
+h2 P = ratio (pos 6078) 10000 -ᶠ ratio (pos 6) 10000 *ᶠ P
 
--- l2 = 0.0847, sideways
-unfoldable pub l2 : Fraction
-l2 = ratio (pos 847) 10000
+-- l2 = 0.0847 + 0.0002 P, sideways
+unfoldable pub l2 : Fraction → Fraction
+l2 P = ratio (pos 847) 10000 +ᶠ ratio (pos 2) 10000 *ᶠ P
 
--- (5): K (h r̂ (3 (R̂·r̂)² - 1)/2 + 3 l (R̂·r̂) (R̂ - (R̂·r̂) r̂)), in the unit of K
+-- (5): K (h r̂ (3 (R̂·r̂)² - 1)/2 + 3 l (R̂·r̂) (R̂ - (R̂·r̂) r̂)), in the unit of K, with h and l at P = (3 sin²φ - 1)/2 of the mark
 abbrev pub degreeTwo : Fraction → Vector → Vector → Vector
 degreeTwo K r R =
     let c = dot r R in
-    K *ᵛ ((h2 *ᶠ P2 c) *ᵛ r +ᵛ (pos 3 ·ᶠ (l2 *ᶠ c)) *ᵛ (R -ᵛ c *ᵛ r))
+    let P = P2 (sine r) in
+    K *ᵛ ((h2 P *ᶠ P2 c) *ᵛ r +ᵛ (pos 3 ·ᶠ (l2 P *ᶠ c)) *ᵛ (R -ᵛ c *ᵛ r))
 
 -- one body's, metres, at r̂: its vector v and distance R in its own unit
 abbrev pub pulled : Puller → Vector → Vec3 → Positive → Vector

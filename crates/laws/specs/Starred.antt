@@ -63,5 +63,6 @@ pub record Starred : Type 0 where
   pub case-10 : (wholeOf (ofBits binary64 0x4004_0000_0000_0000) ≡ some (pos 2)) × (wholeOf (ofBits binary64 0xbfe0_0000_0000_0000) ≡ some (pos 0))
   -- field offsets of 73,050, 73,049 and -73,050 grains: 0, 0, 0
   pub case-11 : roundedBy 146100 (vec (pos 73050) (pos 73049) (negℤ (pos 73050))) ≡ vec (pos 0) (pos 0) (pos 0)
-  -- Moon (384400000, 0, 0), as doubles, mark of 2: its part is (near(6,078 K0/10,000) + near(292 K0₃/1,000), 0, 0), which is 320,767,719 in x
-  pub case-12 : (wholes ahead ≡ vec (pos 384400000) (pos 0) (pos 0)) × (moonPart (units (lengthOf equator) equator) (wholes ahead) ≡ vec (near (pos 6078 *ℤ pos (moon .k0)) 10000 +ℤ near (pos 292 *ℤ pos thirdK0) 1000) (pos 0) (pos 0)) × (near (pos 6078 *ℤ pos (moon .k0)) 10000 +ℤ near (pos 292 *ℤ pos thirdK0) 1000 ≡ pos 320767719)
+  -- Moon (384400000, 0, 0), as doubles, mark of 2: its part is (near(6,081 K0/10,000) + near(292 K0₃/1,000), 0, 0), which is 320,924,792 in x. On the
+  -- equator P is -1/2, and h 0.6081
+  pub case-12 : (wholes ahead ≡ vec (pos 384400000) (pos 0) (pos 0)) × (moonPart (units (lengthOf equator) equator) (wholes ahead) ≡ vec (near (pos 6081 *ℤ pos (moon .k0)) 10000 +ℤ near (pos 292 *ℤ pos thirdK0) 1000) (pos 0) (pos 0)) × (near (pos 6081 *ℤ pos (moon .k0)) 10000 +ℤ near (pos 292 *ℤ pos thirdK0) 1000 ≡ pos 320924792)

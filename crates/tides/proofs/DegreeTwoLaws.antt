@@ -1,7 +1,7 @@
 -- How large the steps of degree two are, and a displacement of either degree.
 --
--- K is the strength, R0 and K0 of the paper with it. Degree two of a body is at most 1.12 K and 10 grains more in each component: 0.6078 K upward,
--- and 3 x 0.0847 K sideways times |d - c u|, which is at most 2.
+-- K is the strength, R0 and K0 of the paper with it. Degree two of a body is at most 1.12 K and 10 grains more in each component: at most 0.6085 K
+-- upward, and 3 x 0.085 K sideways times |d - c u|, which is at most 2.
 use mathlib.Core.Path.{_≡_, subst, sym}
 use Prim.Native.Nat.{ℕ, _+_, _*_, _≤_}
 use native.Mathlib.Nat.{le-refl, mul-le-mul}
@@ -14,10 +14,12 @@ use Rattle.mark.specs.declared.Vec3.{Vec3}
 use Rattle.mark.specs.Ranges.{Within}
 use Rattle.tides.specs.declared.solid.Standing.{Standing}
 use Rattle.tides.specs.Direction.{E, times, legendre}
-use Rattle.tides.specs.Tide.{nearness, cube, component, displaced, strength, height, upward, sideways, degreeTwo}
+use Rattle.tides.specs.Permanent.{s2, latitude}
+use Rattle.tides.specs.Tide.{nearness, cube, component, displaced, strength, height, upShare, sideShare, upward, sideways, degreeTwo}
 use Rattle.tides.specs.Steps.{Stood}
 use Rattle.tides.proofs.StepLaws.{times-bound}
 use Rattle.tides.proofs.DirectionLaws.{near-size}
+use Rattle.tides.proofs.ShareLaws.{up-share-size, side-share-size}
 use Rattle.numbers.specs.Near.{near}
 use Rattle.numbers.proofs.NearLaws.{near-bound, near-natural}
 
@@ -83,6 +85,12 @@ height-bound c h =
     subst (λ (z : ℤ). natAbs (legendre z) ≤ E + 548) (sym (square-is c))
     (legendre-bound (natAbs (times c c)) (square-bound c h))
 
+-- ---- the mark's P, which is of its sine what p is of c
+
+pub latitude-bound : (u : Vec3) → Within E u → natAbs (latitude u) ≤ E + 548
+unfolding latitude s2 height
+latitude-bound u h = height-bound (u .z) (omega (arith, h .z))
+
 -- ---- a displacement
 
 -- near(x y/E) where y is at most m in size
@@ -91,23 +99,14 @@ unfolding times
 times-size x y m h =
     omega (arith, near-size (x *ℤ y) E (lit< tt), abs-* x y, mul-le-mul (le-refl (natAbs x)) h)
 
-share : (n : ℕ) (k : ℤ) → 2 * (10000 * natAbs (near (pos n *ℤ k) 10000)) ≤ 2 * (n * natAbs k) + 10000
-share n k = omega (arith, near-size (pos n *ℤ k) 10000 (lit< tt), abs-* (pos n) k)
+module _ (P k c : ℤ) (hP : natAbs P ≤ E + 548) (hc : natAbs c ≤ E + 182) where
+  upward-size : 10000 * natAbs (upward P k c) ≤ 6086 * natAbs k + 11000
+  unfolding upward
+  upward-size = omega (arith, up-share-size P k hP, times-size (upShare P k) (height c) (E + 548) (height-bound c hc))
 
-upward-size : (k c : ℤ) → natAbs c ≤ E + 182 → 10000 * natAbs (upward k c) ≤ 6079 * natAbs k + 11000
-unfolding upward
-upward-size k c h =
-    omega (arith, share 6078 k, times-size (near (pos 6078 *ℤ k) 10000) (height c) (E + 548) (height-bound c h))
-
-sideways-size : (k c : ℤ) → natAbs c ≤ E + 182 → 10000 * natAbs (sideways k c) ≤ 2544 * natAbs k + 40000
-unfolding sideways
-sideways-size k c h =
-    omega (
-      arith,
-      share 847 k,
-      times-size (near (pos 847 *ℤ k) 10000) c (E + 182) h,
-      abs-* (pos 3) (times (near (pos 847 *ℤ k) 10000) c),
-    )
+  sideways-size : 10000 * natAbs (sideways P k c) ≤ 2551 * natAbs k + 40000
+  unfolding sideways
+  sideways-size = omega (arith, side-share-size P k hP, times-size (sideShare P k) c (E + 182) hc, abs-* (pos 3) (times (sideShare P k) c))
 
 component-size :
     (rho t c u d : ℤ)
@@ -155,5 +154,7 @@ pub degree-two-small :
 unfolding degreeTwo
 degree-two-small k0 K n u b hk hu hb hn =
     let k : ℤ = strength k0 (b .q) in
-    displaced-small n (upward k (b .c)) (sideways k (b .c)) u b hu hb
-    (omega (arith, upward-size k (b .c) (hb .c), sideways-size k (b .c) (hb .c)))
+    let P : ℤ = latitude u in
+    let hP = latitude-bound u hu in
+    displaced-small n (upward P k (b .c)) (sideways P k (b .c)) u b hu hb
+    (omega (arith, upward-size P k (b .c) hP (hb .c), sideways-size P k (b .c) hP (hb .c)))

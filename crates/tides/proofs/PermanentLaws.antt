@@ -12,7 +12,7 @@ use Rattle.mark.proofs.LengthLaws.{widen, at-least}
 use Rattle.mark.proofs.MarkLaws.{accepted-within, number-marked, number-unmarked}
 use Rattle.tides.specs.declared.Shift.{Shift}
 use Rattle.tides.specs.Direction.{units, E, legendre}
-use Rattle.tides.specs.Permanent.{permanent, permanentAnswer, s2, small, radial, north, down, across, along, permanentOf}
+use Rattle.tides.specs.Permanent.{permanent, permanentAnswer, s2, latitude, small, radial, north, down, across, along, permanentOf}
 use Rattle.tides.specs.Steps.{Direction}
 use Rattle.tides.proofs.DirectionLaws.{mark-direction, direction-within}
 use Rattle.tides.proofs.StepLaws.{times-bound, legendre-bound}
@@ -64,7 +64,7 @@ module _ (u : Vec3) (w : Within E u) where
   w-small = times-bound (north (small (legendre (s2 (u .z))))) (s2 (u .z)) 37109400 E 37109400 t-small s-small (lit≤ tt)
 
   pub shift-within : Within 600000000 (permanentOf u)
-  unfolding permanentOf across along
+  unfolding permanentOf latitude across along
   shift-within =
       let s : ℤ = s2 (u .z) in
       let p : ℤ = legendre s in

@@ -13,6 +13,10 @@ use Rattle.tides.specs.Direction.{times, units, legendre}
 unfoldable pub s2 : ℤ → ℤ
 s2 uz = times uz uz
 
+-- P = near((3 s2 - E)/2), at the unit vector u. The solid tide takes it too
+unfoldable pub latitude : Vec3 → ℤ
+latitude u = legendre (s2 (u .z))
+
 -- e = near(146,100 P/E)
 unfoldable pub small : ℤ → ℤ
 small p = times (pos 146100) p
@@ -41,7 +45,7 @@ along a t w uz = times (a +ℤ pos 2 *ℤ t -ℤ pos 2 *ℤ w) uz
 unfoldable pub permanentOf : Vec3 → Vec3
 permanentOf u =
     let s = s2 (u .z) in
-    let p = legendre s in
+    let p = latitude u in
     let e = small p in
     let a = radial e p in
     let t = north e in

@@ -4,7 +4,7 @@ use mathlib.Core.Bool.{not, cond, _&&_}
 use mathlib.Core.List.{[], _∷_}
 use Prim.Native.Nat.{ℕ, _+_, _*_, _≤_, _^_}
 use lib.Dec.{eqb, leb}
-use lib.IntN.{natAbs, ℤ, pos}
+use lib.IntN.{natAbs, ℤ, pos, _+ℤ_, _*ℤ_}
 use lib.Ieee.{Float}
 use Rattle.refusal.specs.Refusal.{first}
 use Rattle.mark.specs.declared.Vec3.{Vec3}
@@ -20,6 +20,7 @@ use Rattle.tides.specs.declared.bodies.Coordinate.{Coordinate}
 use Rattle.tides.specs.declared.bodies.Wholes.{Wholes}
 use Rattle.tides.specs.Direction.{E}
 use Rattle.tides.specs.Bodies.{wholes, finite, isNumber, numberOf}
+use Rattle.numbers.specs.Near.{near}
 use Rattle.numbers.specs.Whole.{wholeOf}
 
 -- a unit vector after rounding: each component at most E, the length at most 172 units more than E
@@ -32,6 +33,10 @@ pub record Stood (b : Standing) : Type 0 where
   pub q : natAbs (b .q) ≤ 1181116007
   pub d : Within E (b .d)
   pub c : natAbs (b .c) ≤ E + 182
+
+-- near((a E + b P) K/(10,000 E)): H and S of degree two, of a and b ten thousandths
+unfoldable pub shareOf : ℤ → ℤ → ℤ → ℤ → ℤ
+shareOf a b P k = near ((a *ℤ pos E +ℤ b *ℤ P) *ℤ k) (10000 * E)
 
 -- a body that is seen and lies from low to high, in its own unit
 pub record Reached (low high : ℕ) (s : Sight) : Type 0 where

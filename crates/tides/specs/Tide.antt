@@ -1,7 +1,7 @@
 -- The solid tide, in grains: the steps of degree two for each body and of degree three for the Moon, one definition each, and the Moon's plus the Sun's.
 use mathlib.Core.Bool.{not, cond, _&&_}
 use mathlib.Core.List.{[], _∷_}
-use Prim.Native.Nat.{ℕ}
+use Prim.Native.Nat.{ℕ, _*_}
 use lib.Dec.{eqb}
 use lib.IntN.{ℤ, pos, _+ℤ_, _-ℤ_, _*ℤ_}
 use Rattle.refusal.specs.Refusal.{Table, first}
@@ -13,6 +13,7 @@ use Rattle.tides.specs.declared.Body.{Body}
 use Rattle.tides.specs.declared.solid.Standing.{Standing}
 use Rattle.tides.specs.declared.Shift.{Shift}
 use Rattle.tides.specs.Direction.{E, times, units, legendre}
+use Rattle.tides.specs.Permanent.{latitude}
 use Rattle.tides.specs.Bodies.{Kind, moon, thirdK0, sun, wholes, finite, inReach, paired, moonOf, sunOf}
 use Rattle.numbers.specs.Near.{near}
 
@@ -59,19 +60,36 @@ strength k0 q = times (pos k0) (cube q)
 unfoldable pub height : ℤ → ℤ
 height c = legendre (times c c)
 
--- rho = near(H p/E), with H = near(6,078 K/10,000)
-unfoldable pub upward : ℤ → ℤ → ℤ
-upward k c = times (near (pos 6078 *ℤ k) 10000) (height c)
+-- h = 0.6078 - 0.0006 P of the mark's P, scaled by 10,000 E, exactly
+unfoldable pub love : ℤ → ℤ
+love P = pos 6078 *ℤ pos E -ℤ pos 6 *ℤ P
 
--- t = 3 near(S c/E), with S = near(847 K/10,000)
-unfoldable pub sideways : ℤ → ℤ → ℤ
-sideways k c = pos 3 *ℤ times (near (pos 847 *ℤ k) 10000) c
+-- l = 0.0847 + 0.0002 P, scaled alike
+unfoldable pub shida : ℤ → ℤ
+shida P = pos 847 *ℤ pos E +ℤ pos 2 *ℤ P
+
+-- H = near((6,078 E - 6 P) K/(10,000 E))
+unfoldable pub upShare : ℤ → ℤ → ℤ
+upShare P k = near (love P *ℤ k) (10000 * E)
+
+-- S = near((847 E + 2 P) K/(10,000 E))
+unfoldable pub sideShare : ℤ → ℤ → ℤ
+sideShare P k = near (shida P *ℤ k) (10000 * E)
+
+-- rho = near(H p/E)
+unfoldable pub upward : ℤ → ℤ → ℤ → ℤ
+upward P k c = times (upShare P k) (height c)
+
+-- t = 3 near(S c/E)
+unfoldable pub sideways : ℤ → ℤ → ℤ → ℤ
+sideways P k c = pos 3 *ℤ times (sideShare P k) c
 
 -- from K0, u and how the body stands
 unfoldable pub degreeTwo : ℕ → Vec3 → Standing → Vec3
 degreeTwo k0 u b =
+    let P = latitude u in
     let k = strength k0 (b .q) in
-    displaced (upward k (b .c)) (sideways k (b .c)) u b
+    displaced (upward P k (b .c)) (sideways P k (b .c)) u b
 
 -- ---- degree three, of the Moon alone
 

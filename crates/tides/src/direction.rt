@@ -7,6 +7,7 @@ ghost use mir.Val.{SFits};
 ghost use Rattle.mark.specs.Ranges as G;
 ghost use Rattle.tides.specs.Aim as U;
 ghost use Rattle.tides.specs.Direction as D;
+ghost use Rattle.tides.specs.Permanent as P;
 use mark::Vec3;
 
 // near(x y/E).
@@ -56,4 +57,13 @@ pub fn legendre(s: i64) -> i64
     ensures { λ r. ⌜ r ≡ D.legendre s ⌝ }
 {
     numbers::near(3 * s - 1073741824, 2)
+}
+
+// P of a mark, from its unit vector: uz is the sine of its latitude.
+pub fn latitude(u: Vec3) -> i64
+    requires { ⌜ G.Within 1073741824 u ⌝ }
+    ensures { λ r. ⌜ r ≡ P.latitude u ⌝ }
+{
+    let sine = u.z;
+    legendre(times(sine, sine))
 }

@@ -18,6 +18,7 @@ use crate::bodies::SUN_MOST;
 use crate::bodies::Sight;
 use crate::bodies::both;
 use crate::bodies::see;
+use crate::direction::latitude;
 use crate::direction::legendre;
 use crate::direction::times;
 use crate::direction::units;
@@ -102,6 +103,21 @@ pub fn displaced(rho: i64, t: i64, u: Vec3, b: Standing) -> Vec3
     }
 }
 
+// near((a E + b p) k/(10,000 E)), grains. The product can have 72 bits, so a k loses its whole part first, in twos: an even whole number more in
+// the fraction is as much more in near.
+pub fn share(a: i64, b: i64, p: i64, k: i64) -> i64
+    requires { ⌜ natAbs a ≤ 6078 ⌝ }
+    requires { ⌜ natAbs b ≤ 6 ⌝ }
+    requires { ⌜ natAbs p ≤ 1073742372 ⌝ }
+    requires { ⌜ natAbs k ≤ 696882923 ⌝ }
+    ensures { λ r. ⌜ r ≡ Y.shareOf a b p k ⌝ }
+{
+    let whole = a * k;
+    let twos = numbers::near(whole, 20000);
+    let rest = whole - 20000 * twos;
+    2 * twos + numbers::near(rest * 1073741824 + b * p * k, 10737418240000)
+}
+
 // Degree two of one body's part of the tide, in grains, from how it stands. K0 is not negative.
 pub fn degree_two(k0: i64, u: Vec3, b: Standing) -> Vec3
     requires { ⌜ natAbs k0 ≤ 523578453 ⌝ }
@@ -112,8 +128,9 @@ pub fn degree_two(k0: i64, u: Vec3, b: Standing) -> Vec3
 {
     let c = b.c;
     let k = times(k0, cube(b.q));
-    let h = numbers::near(6078 * k, 10000);
-    let s = numbers::near(847 * k, 10000);
+    let p = latitude(u);
+    let h = share(6078, -6, p, k);
+    let s = share(847, 2, p, k);
     let rho = times(h, legendre(times(c, c)));
     let t = 3 * times(s, c);
     displaced(rho, t, u, b)

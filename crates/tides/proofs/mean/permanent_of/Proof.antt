@@ -8,7 +8,7 @@ use Rattle.algebra.proofs.Machine.{rd, Va, given, plain, lit, at, v+, v-, v*, f
 use Rattle.mark.specs.declared.Vec3.{Vec3}
 use Rattle.mark.specs.Mark.{vec}
 use Rattle.tides.specs.Direction.{E, times, legendre}
-use Rattle.tides.specs.Permanent.{s2, small, radial, north, down, across, along, permanentOf}
+use Rattle.tides.specs.Permanent.{s2, latitude, small, radial, north, down, across, along, permanentOf}
 use Rattle.tides.proofs.StepLaws.{vtimes, vlegendre}
 use Rattle.tides.proofs.mean.permanent_of.Statement.{statement}
 use Rattle.tides.proofs.mean.permanent_of.Tie as tie
@@ -92,7 +92,7 @@ uz-2 : (c : tie.After-struct-told5) → Va (rd (c .before .before .before .befor
 uz-2 c = given (record { sfits = c .struct-told5 .given .1 .1 .0 .1 }) (c .before .before .before .before .before .before .before .before .before .before .before .before .pre .z)
 
 named : (u : Vec3) (x y z : ℤ) → x ≡ times (level u) (u .x) → y ≡ times (level u) (u .y) → z ≡ times (steep u) (u .z) → vec x y z ≡ permanentOf u
-unfolding permanentOf s2 small radial north down across along
+unfolding permanentOf latitude s2 small radial north down across along
 named u x y z f g h = cc
 
 returns : tie.Need-returns
