@@ -1,21 +1,23 @@
 """Checks the bounds by exact fractions on seeded random cases, and where exact halves come up.
 
-Both tides stay within 100 grains of their exact formulas in each component, the
-solid tide under 1 m, and the Moon's third degree by itself within 18,400,000
-grains. A card exported and expanded keeps each position component within half a
-unit (73,050 grains, 0.05 mm) and each velocity within 50 micrometres a year; this
-is what the rounding of a field record allows, and the paper names no other.
+Both tides stay within 100 grains of their exact formulas in each component, and
+within 2,922 where the distances are not whole (distances.py). The solid tide stays
+under 1 m, and the Moon's third degree by itself within 18,400,000 grains. A card
+exported and expanded keeps each position component within half a unit (73,050
+grains, 0.05 mm) and each velocity within 50 micrometres a year; this is what the
+rounding of a field record allows, and the paper names no other.
 """
 
-import math
 import sys
 
+import distances
 import exact
 import field
 import gen_latitude
 import sample
 from bodies import MOON, RANGE, SUN
 from chance import Chance
+from exact import gap, hundredths
 from gen_halves import exported
 from half_places import half_bodies, marks, twice
 from permanent import shift
@@ -28,27 +30,19 @@ THIRD = 18_400_000  # grains, for a component of the third degree alone
 ROUNDS = 400
 
 
-def gap(got, wanted):
-    return max(abs(a - b) for a, b in zip(got, wanted))
-
-
-def hundredths(value):
-    """A gap in grains, rounded up to 0.01."""
-    found = math.ceil(100 * value)
-    return f"{found // 100}.{found % 100:02d}"
-
-
 def axis_marks():
     """Marks on the axes, which are the poles and four on the equator, at both ends of the range too; rounding is plain there."""
     for size in (6_300_000, 6_378_137, 6_400_000):
-        for i in range(3):
-            for sign in (1, -1):
-                yield tuple(sign * size if k == i else 0 for k in range(3))
+        yield from sample.on_axes(size)
 
 
-def permanent_bound(rng):
+def all_marks(rng):
+    return [*axis_marks(), *(sample.mark(rng) for _ in range(ROUNDS)), *marks()]
+
+
+def permanent_bound(tried):
     t, worst = Tally("permanent within 100 grains"), 0
-    for mark in [*axis_marks(), *(sample.mark(rng) for _ in range(ROUNDS)), *marks()]:
+    for mark in tried:
         off = gap(shift(mark), exact.permanent(mark))
         worst = max(worst, off)
         t.true(f"{mark}", off <= LIMIT)
@@ -87,9 +81,9 @@ def at_latitudes(rng):
         yield mark, *((body, sample.sun(rng)) if label == MOON else (sample.moon(rng), body))
 
 
-def solid_bound(rng):
+def solid_bound(tried):
     t, worst, third = Tally("solid within 100 grains, under 1 m, its third degree too"), 0, 0
-    for mark, moon, sun in standings(rng):
+    for mark, moon, sun in tried:
         got = tide(mark, moon, sun)
         off = gap(got, exact.tide(mark, moon, sun))
         s = stand(mark, MOON, moon)
@@ -116,7 +110,9 @@ def field_bound(rng):
 
 def main():
     rng = Chance(100)
-    return 1 if permanent_bound(rng) + solid_bound(rng) + field_bound(rng) else 0
+    tried, stood = all_marks(rng), list(standings(rng))
+    failed = permanent_bound(tried) + solid_bound(stood) + field_bound(rng)
+    return 1 if failed + distances.check(tried, stood[::11]) else 0
 
 
 if __name__ == "__main__":

@@ -3,12 +3,16 @@
     python3 second/make_cases.py > crates/laws/proofs/FormulaCases.antt
 """
 import math
+from fractions import Fraction
 
 import bodies
 import exact
 import mark
+from distances import squares
+from rounding import root
 
 SCALE = 10**9
+THOUSANDTH = Fraction(1, 1_000)  # metres, kilometres for the Sun
 # name, mark (m), Moon (m), Sun (km)
 CASES = [
     ("equator", (6378137, 0, 0), (384400000, 0, 0), (149597870, 0, 0)),
@@ -31,21 +35,89 @@ def floors(v):
     return tuple(math.floor(x * SCALE) for x in v)
 
 
-def whole(n):
-    return f"(wholly {n} (lit< tt))"
+def wholes(case):
+    return tuple(map(bodies.distance, case[1:]))
+
+
+def real(vector):
+    """Next to the real distance, not above it."""
+    n = squares(vector)
+    at = root(n * 10**6) * THOUSANDTH
+    assert at**2 <= n < (at + THOUSANDTH)**2
+    return at
+
+
+def half(vector):
+    return bodies.distance(vector) + Fraction(1, 2)
+
+
+def under(vector):
+    """Just under one more."""
+    return bodies.distance(vector) + 1 - THOUSANDTH
+
+
+# the case's name, what its statements' names end in, what they are at, and how the distances of mark, Moon and Sun are taken
+OTHERS = [
+    ("east", "real", "next to the real distances", (real, real, real)),
+    ("west", "mixed", "the mark's a half more than the whole one, the Moon's next to the real one, the Sun's just under one more", (half, real, under)),
+    ("south", "under", "all just under one more", (under, under, under)),
+]
+
+
+def others(case, ways):
+    """Distances in reach of the whole ones, and none of them whole."""
+    found = tuple(way(vector) for way, vector in zip(ways, case[1:]))
+    for at, whole in zip(found, wholes(case)):
+        assert whole <= at < whole + 1 and at != whole
+    return found
+
+
+def wholly(at):
+    return f"(wholly {at} (lit< tt))"
+
+
+def thousandths(at):
+    top = at / THOUSANDTH
+    assert top.denominator == 1
+    return f"(thousandths {top} (lit< tt))"
 
 
 out = []
 p = out.append
+
+
+def statement(name, formula, value):
+    """That a formula gives a value, rounded down."""
+    p(f"""pub {name} :
+    floors ({formula})
+    ≡ {vec(floors(value))}
+unfolding floors
+{name} = refl
+""")
+
+
+def permanent(case, distances, written, ending=""):
+    name, m, _, _ = case
+    size = distances[0]
+    statement(f"permanent-{name}{ending}", f"permanentFormula {name} {written(size)}", exact.permanent(m, size))
+
+
+def solid(case, distances, written, ending=""):
+    name, *vectors = case
+    size, r, s = map(written, distances)
+    statement(f"solid-{name}{ending}", f"solidFormula {name} {size} {name}-moon {r} {name}-sun {s}", exact.tide(*vectors, *distances))
+
+
 p("""-- The formulas at five marks and five pairs of bodies, to be held against another program: each component of the exact fraction in
 -- billionths of a grain, rounded down.
 --
--- second/exact.py of the second program gives the same numbers: floor(x * 10**9) for x in permanent(mark), and in tide(mark, moon, sun).
+-- second/exact.py of the second program gives the same numbers: floor(x * 10**9) for x in permanent(mark, l), and in
+-- tide(mark, moon, sun, l, r, s). The distances l, r and s are the whole ones; at three of the marks there are also statements at others.
 use mathlib.Core.Path.{_≡_, refl, sym}
-use Prim.Native.Nat.{ℕ, _+_, _*_, _/_, _^_}
+use Prim.Native.Nat.{ℕ, _+_, _*_, _/_, _^_, _<_}
 use lib.Dec.{T, leb, ltb, leb→le, ltb→lt, lit<}
 use lib.IntN.{ℤ, pos, negsuc, negℤ}
-use Rattle.algebra.specs.Fraction.{Fraction, whole, ratio, wholly, _+ᶠ_, _-ᶠ_, _*ᶠ_, _·ᶠ_, _/ᶠ_, _÷ᶠ_}
+use Rattle.algebra.specs.Fraction.{Fraction, Positive, whole, ratio, wholly, _+ᶠ_, _-ᶠ_, _*ᶠ_, _·ᶠ_, _/ᶠ_, _÷ᶠ_}
 use Rattle.numbers.proofs.RootLaws.{root-same}
 use Rattle.mark.specs.declared.Vec3.{Vec3}
 use Rattle.mark.specs.Mark.{vec, squares, lengthOf}
@@ -91,22 +163,22 @@ floors v = vec (billionths (v .x)) (billionths (v .y)) (billionths (v .z))
 
 -- ---- the permanent displacement
 """)
-for name, m, v, w in CASES:
-    assert mark.good_mark(m)
-    p(f"""pub permanent-{name} :
-    floors (permanentFormula {name} {whole(mark.length(m))})
-    ≡ {vec(floors(exact.permanent(m)))}
-unfolding floors
-permanent-{name} = refl
-""")
+for case in CASES:
+    assert mark.good_mark(case[1])
+    permanent(case, wholes(case), wholly)
 p("-- ---- the solid tide: degree two of both bodies with h and l at the mark's latitude, degree three of the Moon\n")
-for name, m, v, w in CASES:
-    assert bodies.in_range(bodies.MOON, v) and bodies.in_range(bodies.SUN, w)
-    L, R, S = mark.length(m), bodies.distance(v), bodies.distance(w)
-    p(f"""pub solid-{name} :
-    floors (solidFormula {name} {whole(L)} {name}-moon {whole(R)} {name}-sun {whole(S)})
-    ≡ {vec(floors(exact.tide(m, v, w)))}
-unfolding floors
-solid-{name} = refl
+for case in CASES:
+    assert bodies.in_range(bodies.MOON, case[2]) and bodies.in_range(bodies.SUN, case[3])
+    solid(case, wholes(case), wholly)
+p("""-- ---- at other distances, each from the whole one up to, but not including, one more
+
+-- a distance in thousandths
+abbrev thousandths : (n : ℕ) → 0 < n → Positive
+thousandths n p = record { top = n; bottom = 1000; top-pos = p; bottom-pos = lit< tt }
 """)
+for name, ending, what, ways in OTHERS:
+    case, = (case for case in CASES if case[0] == name)
+    p(f"-- {name}: {what}\n")
+    for tide in (permanent, solid):
+        tide(case, others(case, ways), thousandths, f"-{ending}")
 print("\n".join(out).rstrip())

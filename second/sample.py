@@ -35,6 +35,13 @@ def along(direction, size):
     return tuple(vector)
 
 
+def on_axes(size):
+    """Both ends of each axis at this distance: for a mark the poles and four places on the equator."""
+    for i in range(3):
+        for sign in (1, -1):
+            yield tuple(sign * size if k == i else 0 for k in range(3))
+
+
 def across(vector):
     """A vector at right angles to one that is not zero."""
     x, y, z = vector

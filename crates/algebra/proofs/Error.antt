@@ -249,6 +249,10 @@ pub weakV :
 weakV {X = X} v h k =
     record { off = le-trans (v .off) (mul-le-mul-right (X .den) h); size = le-trans (v .size) k }
 
+-- a larger bound of |x|
+pub wideV : {s : ℕ} {x : ℤ} {X : Fraction} {e b b′ : ℕ} → Val s x X e b → b ≤ b′ → Val s x X e b′
+wideV v h = record { off = v .off; size = le-trans (v .size) h }
+
 -- a bound of |x| known from elsewhere
 pub boundV : {s : ℕ} {x : ℤ} {X : Fraction} {e b b′ : ℕ} → Val s x X e b → natAbs x ≤ b′ → Val s x X e b′
 boundV v h = record { off = v .off; size = h }

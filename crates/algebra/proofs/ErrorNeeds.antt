@@ -6,7 +6,7 @@ use mathlib.Core.Path.{_≡_, sym, ap, _∙_}
 use Prim.Native.Nat.{ℕ, suc, _+_, _*_, _≤_, _<_}
 use native.Mathlib.Nat.{eq-of-mul-eq-mul-right}
 use native.Mathlib.Omega.{arith}
-use lib.IntN.{ℤ, pos, negℤ, natAbs, _+ℤ_, _-ℤ_, _*ℤ_}
+use lib.IntN.{ℤ, pos, natAbs, _+ℤ_, _-ℤ_, _*ℤ_}
 use Rattle.algebra.proofs.Difference.{split, plus, minus, ℤ⊖}
 
 -- ---- a positive factor cancels
@@ -29,10 +29,6 @@ pub difference-off :
     → (x -ℤ y) *ℤ pos (D * C) -ℤ pos s *ℤ (N *ℤ pos C -ℤ M *ℤ pos D)
     ≡ (x *ℤ pos D -ℤ pos s *ℤ N) *ℤ pos C -ℤ (y *ℤ pos C -ℤ pos s *ℤ M) *ℤ pos D
 difference-off x y N M D C s = rw (split x, split y, split N, split M) (simp ℤ⊖ (omega arith))
-
-pub neg-off :
-    (x N : ℤ) (D s : ℕ) → negℤ x *ℤ pos D -ℤ pos s *ℤ negℤ N ≡ negℤ (x *ℤ pos D -ℤ pos s *ℤ N)
-neg-off x N D s = rw (split x, split N) (simp ℤ⊖ (omega arith))
 
 pub times-off :
     (c x N : ℤ) (D s : ℕ) → c *ℤ x *ℤ pos D -ℤ pos s *ℤ (c *ℤ N) ≡ c *ℤ (x *ℤ pos D -ℤ pos s *ℤ N)
@@ -118,11 +114,7 @@ ratio-off a d n p = rw (p, split a) (simp ℤ⊖ (omega arith))
 pub self-off : (n : ℕ) → pos n -ℤ pos (n * 1) ≡ pos 0
 self-off n = simp ℤ⊖ (omega arith)
 
--- ---- forms of one difference
+-- ---- a distance t/b from L up to L + 1
 
-pub one-off : (x N : ℤ) (D : ℕ) → x *ℤ pos D -ℤ N ≡ x *ℤ pos D -ℤ pos 1 *ℤ N
-one-off x N D = rw (split x, split N) (simp ℤ⊖ (omega arith))
-
--- a distance t/b from L up to L + 1
 pub near-whole : (L t b : ℕ) → L * b ≤ t → t ≤ suc L * b → natAbs (pos t -ℤ pos (L * b)) ≤ b
 near-whole L t b h k = simp ℤ⊖ (omega arith)

@@ -6,7 +6,7 @@ use Prim.Native.Nat.{ℕ, _+_, _*_, _/_, _≤_}
 use lib.Dec.{lit<, lit≤}
 use lib.IntN.{ℤ, natAbs, _+ℤ_, _-ℤ_, _*ℤ_}
 use Rattle.algebra.specs.Fraction.{Fraction, _≈_, _+ᶠ_, _-ᶠ_, _*ᶠ_}
-use Rattle.algebra.proofs.Error.{Val, nearV, mulV, plusV, minusV, weakV, boundV, isV, sameV}
+use Rattle.algebra.proofs.Error.{Val, nearV, mulV, plusV, minusV, boundV, isV, sameV, wideV}
 use Rattle.numbers.proofs.NearLaws.{near-half}
 use Rattle.mark.specs.declared.Vec3.{Vec3}
 use Rattle.mark.specs.Mark.{plus}
@@ -14,7 +14,7 @@ use Rattle.tides.specs.declared.solid.Standing.{Standing}
 use Rattle.tides.specs.Direction.{E, times}
 use Rattle.tides.specs.Tide.{cube, cosine, component, displaced}
 use Rattle.laws.specs.Formulas.{Vector, _+ᵛ_, _-ᵛ_, _*ᵛ_, Close, metre, grains, dot}
-use Rattle.laws.proofs.ErrorTables.{StandingErrors, displacement}
+use Rattle.laws.proofs.StepErrors.{q2Off, q3Off, cosineOff, partOff, displacedOff}
 use Rattle.laws.proofs.StepValues.{Stands, times-is, grains-is}
 
 -- ---- vectors of grains for metres
@@ -48,49 +48,49 @@ pub record Placed (nu nd nq : ℕ) (u : Vec3) (b : Standing) (r R : Vector) (Q :
   pub c-small : natAbs (b .c) ≤ E + 182
 
 module _
-    {nu nd nq : ℕ} (table : StandingErrors nu nd nq) {u : Vec3} {b : Standing} {r R : Vector} {Q : Fraction}
+    {nu nd nq : ℕ} {u : Vec3} {b : Standing} {r R : Vector} {Q : Fraction}
     (placed : Placed nu nd nq u b r R Q) where
   abbrev C : Fraction
   C = dot r R
 
-  q2-is : Val E (times (b .q) (b .q)) (Q *ᶠ Q) (table .q2) 1295181225
-  q2-is = times-is (placed .q-is) (placed .q-is) (table .q2-ok) (lit≤ tt)
+  q2-is : Val E (times (b .q) (b .q)) (Q *ᶠ Q) (q2Off nq) 1295181225
+  unfolding q2Off
+  q2-is = times-is (placed .q-is) (placed .q-is) (lit≤ tt)
 
-  pub q3-is : Val E (cube (b .q)) (Q *ᶠ Q *ᶠ Q) (table .q3) 1422479040
-  unfolding cube
-  q3-is = times-is q2-is (placed .q-is) (table .q3-ok) (lit≤ tt)
+  pub q3-is : Val E (cube (b .q)) (Q *ᶠ Q *ᶠ Q) (q3Off nq) 1422479040
+  unfolding cube q3Off
+  q3-is = times-is q2-is (placed .q-is) (lit≤ tt)
 
-  cosine-is : Val E (cosine u (b .d)) C (table .c) (3 * E + 1)
-  unfolding cosine dot
+  cosine-is : Val E (cosine u (b .d)) C (cosineOff nu nd) (3 * E + 1)
+  unfolding cosine dot cosineOff
   cosine-is =
-      weakV
+      wideV
       (nearV (near-half (u .x *ℤ b .d .x +ℤ u .y *ℤ b .d .y +ℤ u .z *ℤ b .d .z) E (lit< tt)) (lit< tt)
       (plusV (plusV (mulV (placed .u-is .x) (placed .d-is .x)) (mulV (placed .u-is .y) (placed .d-is .y))) (mulV (placed .u-is .z) (placed .d-is .z))))
-      (table .c-ok)
       (lit≤ tt)
 
-  pub c-is : Val E (b .c) C (table .c) (E + 182)
+  pub c-is : Val E (b .c) C (cosineOff nu nd) (E + 182)
   c-is = boundV (isV (placed .c-here) cosine-is) (placed .c-small)
 
   -- ---- a displacement, of any rho and t
 
   -- a and d are components of u and b's d, X and Y the exact ones
-  v-is : (a : ℤ) (X : Fraction) → Val E a X nu E → Val E (times (b .c) a) (C *ᶠ X) (table .v) (E + 183)
-  v-is a X a-is = times-is c-is a-is (table .v-ok) (lit≤ tt)
+  v-is : (a : ℤ) (X : Fraction) → Val E a X nu E → Val E (times (b .c) a) (C *ᶠ X) (partOff nu nd) (E + 183)
+  unfolding partOff
+  v-is a X a-is = times-is c-is a-is (lit≤ tt)
 
   module _
-      {rho t : ℤ} {A B : Fraction} {up side er et : ℕ} (x n : ℕ) (rho-is : Val metre rho A er up) (t-is : Val metre t B et side)
-      (off : displacement table er up et side ≤ x) (size : (up * E + side * (2 * E + 183)) / E + 1 ≤ n) where
-    component-is : (a d : ℤ) (X Y : Fraction) → Val E a X nu E → Val E d Y nd E → Val metre (component rho t (b .c) a d) (A *ᶠ X +ᶠ B *ᶠ (Y -ᶠ C *ᶠ X)) x n
+      {rho t : ℤ} {A B : Fraction} {up side er et : ℕ} (n : ℕ) (rho-is : Val metre rho A er up) (t-is : Val metre t B et side)
+      (size : (up * E + side * (2 * E + 183)) / E + 1 ≤ n) where
+    component-is : (a d : ℤ) (X Y : Fraction) → Val E a X nu E → Val E d Y nd E → Val metre (component rho t (b .c) a d) (A *ᶠ X +ᶠ B *ᶠ (Y -ᶠ C *ᶠ X)) (displacedOff nu nd er up et side) n
     unfolding component
     component-is a d X Y a-is d-is =
-        weakV
+        wideV
         (nearV (near-half (rho *ℤ a +ℤ t *ℤ (d -ℤ times (b .c) a)) E (lit< tt)) (lit< tt)
         (plusV (mulV rho-is a-is) (mulV t-is (minusV d-is (v-is a X a-is)))))
-        off
         size
 
-    pub displaced-is : Metres x n (displaced rho t u b) (A *ᵛ r +ᵛ B *ᵛ (R -ᵛ C *ᵛ r))
+    pub displaced-is : Metres (displacedOff nu nd er up et side) n (displaced rho t u b) (A *ᵛ r +ᵛ B *ᵛ (R -ᵛ C *ᵛ r))
     unfolding displaced
     displaced-is =
         let w = placed .u-is in

@@ -1,12 +1,13 @@
 -- The formulas at five marks and five pairs of bodies, to be held against another program: each component of the exact fraction in
 -- billionths of a grain, rounded down.
 --
--- second/exact.py of the second program gives the same numbers: floor(x * 10**9) for x in permanent(mark), and in tide(mark, moon, sun).
+-- second/exact.py of the second program gives the same numbers: floor(x * 10**9) for x in permanent(mark, l), and in
+-- tide(mark, moon, sun, l, r, s). The distances l, r and s are the whole ones; at three of the marks there are also statements at others.
 use mathlib.Core.Path.{_≡_, refl, sym}
-use Prim.Native.Nat.{ℕ, _+_, _*_, _/_, _^_}
+use Prim.Native.Nat.{ℕ, _+_, _*_, _/_, _^_, _<_}
 use lib.Dec.{T, leb, ltb, leb→le, ltb→lt, lit<}
 use lib.IntN.{ℤ, pos, negsuc, negℤ}
-use Rattle.algebra.specs.Fraction.{Fraction, whole, ratio, wholly, _+ᶠ_, _-ᶠ_, _*ᶠ_, _·ᶠ_, _/ᶠ_, _÷ᶠ_}
+use Rattle.algebra.specs.Fraction.{Fraction, Positive, whole, ratio, wholly, _+ᶠ_, _-ᶠ_, _*ᶠ_, _·ᶠ_, _/ᶠ_, _÷ᶠ_}
 use Rattle.numbers.proofs.RootLaws.{root-same}
 use Rattle.mark.specs.declared.Vec3.{Vec3}
 use Rattle.mark.specs.Mark.{vec, squares, lengthOf}
@@ -192,3 +193,51 @@ pub solid-south :
     ≡ vec (pos 23575114523272389) (negℤ (pos 7759805595583156)) (negℤ (pos 46085604778943713))
 unfolding floors
 solid-south = refl
+
+-- ---- at other distances, each from the whole one up to, but not including, one more
+
+-- a distance in thousandths
+abbrev thousandths : (n : ℕ) → 0 < n → Positive
+thousandths n p = record { top = n; bottom = 1000; top-pos = p; bottom-pos = lit< tt }
+
+-- east: next to the real distances
+
+pub permanent-east-real :
+    floors (permanentFormula east (thousandths 6366612954 (lit< tt)))
+    ≡ vec (negℤ (pos 12975800701998624)) (negℤ (pos 2966827971777138)) (negℤ (pos 70898607330532120))
+unfolding floors
+permanent-east-real = refl
+
+pub solid-east-real :
+    floors (solidFormula east (thousandths 6366612954 (lit< tt)) east-moon (thousandths 398364046916 (lit< tt)) east-sun (thousandths 149995807480 (lit< tt)))
+    ≡ vec (pos 105580636164140905) (pos 89963377478924572) (pos 72444135550151784)
+unfolding floors
+solid-east-real = refl
+
+-- west: the mark's a half more than the whole one, the Moon's next to the real one, the Sun's just under one more
+
+pub permanent-west-mixed :
+    floors (permanentFormula west (thousandths 6368503500 (lit< tt)))
+    ≡ vec (pos 2327964729823159) (negℤ (pos 9950504110660056)) (negℤ (pos 37967999059443486))
+unfolding floors
+permanent-west-mixed = refl
+
+pub solid-west-mixed :
+    floors (solidFormula west (thousandths 6368503500 (lit< tt)) west-moon (thousandths 404888734784 (lit< tt)) west-sun (thousandths 152072442999 (lit< tt)))
+    ≡ vec (negℤ (pos 30966025135897239)) (pos 91762915867517932) (negℤ (pos 118578496623626942))
+unfolding floors
+solid-west-mixed = refl
+
+-- south: all just under one more
+
+pub permanent-south-under :
+    floors (permanentFormula south (thousandths 6363961999 (lit< tt)))
+    ≡ vec (negℤ (pos 15242262292756213)) (pos 40391995075803962) (pos 11428148847297043)
+unfolding floors
+permanent-south-under = refl
+
+pub solid-south-under :
+    floors (solidFormula south (thousandths 6363961999 (lit< tt)) south-moon (thousandths 350000000999 (lit< tt)) south-sun (thousandths 146000000999 (lit< tt)))
+    ≡ vec (pos 23575132445614941) (negℤ (pos 7759863563248009)) (negℤ (pos 46085565119601761))
+unfolding floors
+solid-south-under = refl

@@ -1,6 +1,6 @@
 -- The theorems that the library exists for.
 pub mod Distances
-pub mod ErrorTables
+pub mod StepErrors
 pub mod StepValues
 pub mod NorthLaws
 pub mod PermanentBound
@@ -8,6 +8,11 @@ pub mod BodyChain
 pub mod TwoChain
 pub mod ThreeChain
 pub mod SolidBound
+pub mod RealBound
+pub mod SteadyLaws
+pub mod RealRoots
+pub mod FormulaSteady
+pub mod RealLimit
 pub mod FormulaCases
 pub mod VectorLaws
 pub mod CallLaws

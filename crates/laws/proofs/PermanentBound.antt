@@ -1,15 +1,15 @@
 -- The 100-grain bound of the permanent shift: for every accepted mark it lies within 100 grains of (14a) and (14b) at the whole distance L.
 --
--- The chain is over any unit vector that stands for an exact one and any table of errors. A grain count stands for metres at the scale
+-- The chain is over any unit vector that stands for an exact one, off by n/1000. A grain count stands for metres at the scale
 -- `metre`: 146,100 for 0.0001 m, 176,196,600 for 0.1206 m, 36,817,200 for 0.0252 m.
 use mathlib.Core.Path.{_≡_}
 use Prim.Native.Nat.{ℕ, _+_, _*_, _≤_}
 use native.Mathlib.Omega.{arith}
 use lib.Dec.{T, lit≤}
 use lib.IntN.{ℤ, pos, negℤ, _+ℤ_, _-ℤ_, _*ℤ_}
-use Rattle.algebra.specs.Fraction.{Fraction, whole, ratio, wholly, _+ᶠ_, _-ᶠ_, _*ᶠ_, _·ᶠ_}
+use Rattle.algebra.specs.Fraction.{Fraction, Positive, whole, ratio, wholly, _+ᶠ_, _-ᶠ_, _*ᶠ_, _·ᶠ_}
 use Rattle.algebra.proofs.Difference.{split, ℤ⊖}
-use Rattle.algebra.proofs.Error.{Val, miss, timesV, plusV, minusV, weakV, isV, sameV}
+use Rattle.algebra.proofs.Error.{Val, miss, timesV, plusV, minusV, isV, sameV, wideV}
 use Rattle.algebra.proofs.Rearranged.{across-same, along-same}
 use Rattle.mark.specs.declared.Vec3.{Vec3}
 use Rattle.mark.specs.Mark.{lengthOf, marked}
@@ -17,8 +17,8 @@ use Rattle.tides.specs.Direction.{E, units, legendre}
 use Rattle.tides.specs.Permanent.{s2, latitude, small, radial, north, down, across, along, permanentOf, permanent}
 use Rattle.laws.specs.Formulas.{bound, Vector, Close, metre, direction, P2, permanentAt, permanentFormula}
 use Rattle.laws.proofs.Distances.{mark-positive}
-use Rattle.laws.proofs.ErrorTables.{PermanentErrors, whole-permanent}
-use Rattle.laws.proofs.StepValues.{Stands, times-is, square-is, latitude-is, grains-is, whole-stands}
+use Rattle.laws.proofs.StepErrors.{squareOff, heightOff, smallOff, radialOff, downOff, acrossOff, alongOff, whole-suffices}
+use Rattle.laws.proofs.StepValues.{Stands, times-is, square-is, latitude-is, grains-is, Quotients, whole-quotients, stands}
 use Rattle.laws.specs.Formulas as Exact
 
 -- ---- the paper's constants
@@ -40,7 +40,7 @@ lower a b = rw (split a, split b) (simp ℤ⊖ (omega arith))
 
 -- ---- the chain
 
-module _ {n : ℕ} (table : PermanentErrors n) (u : Vec3) (r : Vector) (u-is : Stands n u r) where
+module _ {n : ℕ} (u : Vec3) (r : Vector) (u-is : Stands n u r) where
   abbrev S : ℤ
   S = s2 (u .z)
 
@@ -51,31 +51,31 @@ module _ {n : ℕ} (table : PermanentErrors n) (u : Vec3) (r : Vector) (u-is : S
   P = P2 (r .z)
 
   z-is : Val E (u .z) (r .z) n (E + 182)
-  z-is = weakV (u-is .z) (omega arith) (lit≤ tt)
+  z-is = wideV (u-is .z) (lit≤ tt)
 
-  s2-is : Val E S (r .z *ᶠ r .z) (table .height .s2) (E + 365)
+  s2-is : Val E S (r .z *ᶠ r .z) (squareOff n) (E + 365)
   unfolding s2
-  s2-is = square-is (table .height) (u .z) (r .z) z-is
+  s2-is = square-is (u .z) (r .z) z-is
 
-  P-is : Val E p P (table .height .p) (E + 548)
+  P-is : Val E p P (heightOff n) (E + 548)
   unfolding latitude
-  P-is = latitude-is (table .height) u-is
+  P-is = latitude-is u-is
 
-  e-is : Val metre (small p) (ratio (pos 1) 10000 *ᶠ P) (table .e) 146101
-  unfolding small
-  e-is = times-is slope-is P-is (table .e-ok) (lit≤ tt)
+  e-is : Val metre (small p) (ratio (pos 1) 10000 *ᶠ P) (smallOff n) 146101
+  unfolding small smallOff
+  e-is = times-is slope-is P-is (lit≤ tt)
 
-  A-is : Val metre (radial (small p) p) (Exact.radial P) (table .a) 176400000
-  unfolding radial Exact.radial
-  A-is = times-is (isV (lower (pos 176196600) (small p)) (plusV radial-is e-is)) P-is (table .a-ok) (lit≤ tt)
+  A-is : Val metre (radial (small p) p) (Exact.radial P) (radialOff n) 176400000
+  unfolding radial Exact.radial radialOff
+  A-is = times-is (isV (lower (pos 176196600) (small p)) (plusV radial-is e-is)) P-is (lit≤ tt)
 
-  T-is : Val metre (north (small p)) (Exact.north P) (0 + table .e) 36963301
+  T-is : Val metre (north (small p)) (Exact.north P) (0 + smallOff n) 36963301
   unfolding north Exact.north
   T-is = minusV north-is e-is
 
-  w-is : Val metre (down (north (small p)) S) (Exact.north P *ᶠ (r .z *ᶠ r .z)) (table .w) 36970000
-  unfolding down
-  w-is = times-is T-is s2-is (table .w-ok) (lit≤ tt)
+  w-is : Val metre (down (north (small p)) S) (Exact.north P *ᶠ (r .z *ᶠ r .z)) (downOff n) 36970000
+  unfolding down downOff
+  w-is = times-is T-is s2-is (lit≤ tt)
 
   abbrev a : ℤ
   a = radial (small p) p
@@ -83,31 +83,30 @@ module _ {n : ℕ} (table : PermanentErrors n) (u : Vec3) (r : Vector) (u-is : S
   abbrev w : ℤ
   w = down (north (small p)) S
 
-  flat-is : Val metre (a -ℤ pos 2 *ℤ w) (Exact.radial P -ᶠ pos 2 ·ᶠ (Exact.north P *ᶠ (r .z *ᶠ r .z))) (table .a + 2 * table .w) 260000000
-  flat-is = weakV (minusV A-is (timesV (pos 2) w-is)) (omega arith) (lit≤ tt)
+  flat-is : Val metre (a -ℤ pos 2 *ℤ w) (Exact.radial P -ᶠ pos 2 ·ᶠ (Exact.north P *ᶠ (r .z *ᶠ r .z))) (radialOff n + 2 * downOff n) 260000000
+  flat-is = wideV (minusV A-is (timesV (pos 2) w-is)) (lit≤ tt)
 
   -- x and y, from u and its exact component
   across-is :
       (v : ℤ) (X : Fraction)
       → Val E v X n E
-      → Val metre (across a w v) (Exact.radial P *ᶠ X +ᶠ Exact.north P *ᶠ ((pos 2 ·ᶠ r .z) *ᶠ (whole (pos 0) -ᶠ r .z *ᶠ X))) (table .x) 260000001
-  unfolding across
+      → Val metre (across a w v) (Exact.radial P *ᶠ X +ᶠ Exact.north P *ᶠ ((pos 2 ·ᶠ r .z) *ᶠ (whole (pos 0) -ᶠ r .z *ᶠ X))) (acrossOff n) 260000001
+  unfolding across acrossOff
   across-is v X v-is =
       sameV (across-same (Exact.radial P) (Exact.north P) (r .z) X)
-      (times-is flat-is v-is (table .x-ok) (lit≤ tt))
+      (times-is flat-is v-is (lit≤ tt))
 
-  along-is : Val metre (along a (north (small p)) w (u .z)) (permanentAt r .z) (table .z) 340000001
-  unfolding along
+  along-is : Val metre (along a (north (small p)) w (u .z)) (permanentAt r .z) (alongOff n) 340000001
+  unfolding along alongOff
   along-is =
       sameV (along-same (Exact.radial P) (Exact.north P) (r .z))
       (times-is
-      (weakV (minusV (plusV A-is (timesV (pos 2) T-is)) (timesV (pos 2) w-is)) (omega arith) (lit≤ {n = 340000000} tt))
+      (wideV (minusV (plusV A-is (timesV (pos 2) T-is)) (timesV (pos 2) w-is)) (lit≤ {n = 340000000} tt))
       (u-is .z)
-      (table .z-ok)
       (lit≤ tt))
 
   -- the shift from u lies within g grains of the formula at r̂
-  pub permanent-chain : (g : ℕ) → table .x ≤ 1000 * g → table .z ≤ 1000 * g → Close g (permanentOf u) (Exact.grains (permanentAt r))
+  pub permanent-chain : (g : ℕ) → acrossOff n ≤ 1000 * g → alongOff n ≤ 1000 * g → Close g (permanentOf u) (Exact.grains (permanentAt r))
   unfolding permanentOf latitude
   permanent-chain g hx hz =
       record {
@@ -116,10 +115,17 @@ module _ {n : ℕ} (table : PermanentErrors n) (u : Vec3) (r : Vector) (u-is : S
         z = grains-is g along-is hz;
       }
 
--- ---- at the whole distance L, metres
+-- ---- at a distance L, metres, that the whole one stands for
 
+pub permanent-at :
+    {n : ℕ} (m : Vec3) (L : Positive) (g : ℕ)
+    → Quotients n E (lengthOf m) L → acrossOff n ≤ 1000 * g → alongOff n ≤ 1000 * g → Close g (permanent m) (permanentFormula m L)
+unfolding permanent
+permanent-at m L g quotients = permanent-chain (units (lengthOf m) m) (direction m L) (stands m L quotients) g
+
+-- the whole one itself
 pub permanent-within : (m : Vec3) (t : T (marked m)) → Close bound (permanent m) (permanentFormula m (wholly (lengthOf m) (mark-positive m t)))
-unfolding permanent whole-permanent
 permanent-within m t =
-    let L = wholly (lengthOf m) (mark-positive m t) in
-    permanent-chain whole-permanent (units (lengthOf m) m) (direction m L) (whole-stands m (mark-positive m t)) bound (lit≤ tt) (lit≤ tt)
+    permanent-at m (wholly (lengthOf m) (mark-positive m t)) bound (whole-quotients E (lengthOf m) (mark-positive m t))
+    (whole-suffices .across)
+    (whole-suffices .along)

@@ -2,16 +2,15 @@
 -- the Moon at the whole distances L and R, with the body vectors rounded to wholes.
 --
 -- One chain (BodyChain, TwoChain) serves both bodies, at any distance R that the whole one stands for: `body-chain`; ThreeChain adds the Moon's degree
--- three: `moon-chain`. The theorem takes them at the whole distances.
+-- three: `moon-chain`; `solid-at` is the sum of both. The theorem takes it at the whole distances.
 use mathlib.Core.Path.{refl}
 use Prim.Native.Nat.{ℕ, _+_, _*_, _≤_, _<_}
 use native.Mathlib.Omega.{arith}
 use lib.Dec.{T, lit<, lit≤}
-use lib.IntN.{pos, natAbs, _*ℤ_}
+use lib.IntN.{pos, natAbs}
 use Rattle.algebra.specs.Fraction.{Fraction, Positive, _≈_, whole, ratio, wholly, _*ᶠ_, _÷ᶠ_}
-use Rattle.algebra.proofs.Error.{Val, miss, quotientV}
+use Rattle.algebra.proofs.Error.{Val, miss}
 use Rattle.algebra.proofs.Rearranged.{cubes-same, fourths-same}
-use Rattle.numbers.proofs.NearLaws.{near-half}
 use Rattle.mark.specs.declared.Vec3.{Vec3}
 use Rattle.mark.specs.Mark.{lengthOf, marked}
 use Rattle.tides.specs.declared.BodyVector.{BodyVector}
@@ -24,8 +23,8 @@ use Rattle.tides.proofs.DegreeTwoLaws.{moon-strength, sun-strength}
 use Rattle.tides.proofs.TideLaws.{reached as body-far}
 use Rattle.laws.specs.Formulas.{bound, Vector, _+ᵛ_, Close, Puller, metre, direction, Re, theMoon, theSun, inMetres, strengthAt, strengthThreeAt, pulled, pulledThree, solidFormula}
 use Rattle.laws.proofs.Distances.{mark-far, mark-positive, moon-positive, sun-positive}
-use Rattle.laws.proofs.ErrorTables.{StandingErrors, TwoErrors, ThreeErrors, whole-standing, whole-two, whole-three}
-use Rattle.laws.proofs.StepValues.{Stands, whole-stands}
+use Rattle.laws.proofs.StepErrors.{twoOff, threeOff, solidOff, whole-suffices}
+use Rattle.laws.proofs.StepValues.{Stands, Quotients, whole-quotients, stands}
 use Rattle.laws.proofs.BodyChain.{Metres, Placed, sum-is, close-is}
 use Rattle.laws.proofs.TwoChain.{two-is}
 use Rattle.laws.proofs.ThreeChain.{three-is}
@@ -98,14 +97,14 @@ body-placed {k = k} known u r v R hu u-is stood =
     }
 
 pub body-chain :
-    {nu nd nq : ℕ} {k : Kind} {b : Puller} (table : StandingErrors nu nd nq) (two : TwoErrors table) (known : Known k b) (u : Vec3) (r : Vector) (v : Vec3) (R : Positive)
+    {nu nd nq : ℕ} {k : Kind} {b : Puller} (known : Known k b) (u : Vec3) (r : Vector) (v : Vec3) (R : Positive)
     → Direction u
     → Stands nu u r
     → StandsFor nd nq k v R
-    → Metres (two .x) 780000000 (degreeTwo (k .k0) u (standingAt k u v)) (pulled b r v R)
+    → Metres (twoOff nu nd nq) 780000000 (degreeTwo (k .k0) u (standingAt k u v)) (pulled b r v R)
 unfolding standing
-body-chain {k = k} {b} table two known u r v R hu u-is stood =
-    two-is table two (body-placed known u r v R hu u-is stood) (k .k0)
+body-chain {k = k} {b} known u r v R hu u-is stood =
+    two-is (body-placed known u r v R hu u-is stood) (k .k0)
     (strengthAt (b .gm) (inMetres (b .unit) (wholly (k .r0) (known .r0-pos))))
     (strengthAt (b .gm) (inMetres (b .unit) R))
     (known .k0-is)
@@ -128,33 +127,61 @@ unfolding strengthThreeAt
 third-strength-same n r0 p R gm = fourths-same n r0 p R (gm *ᶠ (Re *ᶠ Re *ᶠ Re *ᶠ Re *ᶠ Re))
 
 pub moon-chain :
-    {nu nd nq : ℕ} (table : StandingErrors nu nd nq) (two : TwoErrors table) (three : ThreeErrors table) (u : Vec3) (r : Vector) (v : Vec3) (R : Positive)
+    {nu nd nq : ℕ} (u : Vec3) (r : Vector) (v : Vec3) (R : Positive)
     → Direction u
     → Stands nu u r
     → StandsFor nd nq moon v R
-    → Metres (two .x + three .x) (780000000 + 18400000) (moonPart u v) (pulled theMoon r v R +ᵛ pulledThree theMoon r v R)
+    → Metres (twoOff nu nd nq + threeOff nu nd nq) (780000000 + 18400000) (moonPart u v) (pulled theMoon r v R +ᵛ pulledThree theMoon r v R)
 unfolding moonPart
-moon-chain table two three u r v R hu u-is stood =
-    sum-is (body-chain table two moon-known u r v R hu u-is stood)
-    (three-is table three (body-placed moon-known u r v R hu u-is stood)
+moon-chain u r v R hu u-is stood =
+    sum-is (body-chain moon-known u r v R hu u-is stood)
+    (three-is (body-placed moon-known u r v R hu u-is stood)
     (strengthThreeAt (theMoon .gm) (inMetres 1 (wholly 384400000 (lit< tt))))
     (strengthThreeAt (theMoon .gm) (inMetres 1 R))
     third-known
     (third-strength-same 1 384400000 (lit< tt) R (theMoon .gm)))
 
--- ---- at the whole distances
+-- ---- at distances L, R and S, each in its own unit, that the whole ones stand for
 
-whole-nearness : (r0 l : ℕ) (p : 0 < l) → r0 * E ≤ 1179275307 * l → Val E (nearness r0 l) (whole (pos r0) ÷ᶠ wholly l p) 500 1179275307
+-- a body in reach, by its quotients: d of its unit vector, q of R0/R
+pub body-stands :
+    {d q : ℕ} {k : Kind} {b : Puller} (known : Known k b) (v : BodyVector) (R : Positive)
+    → T (inReach k v)
+    → Quotients d E (lengthOf (wholes v)) R
+    → Quotients q 1179275307 (lengthOf (wholes v)) R
+    → StandsFor d q k (wholes v) R
 unfolding nearness
-whole-nearness r0 l p h = quotientV E l (pos r0) p (near-half (pos r0 *ℤ pos E) l p) h
-
-whole-placed : {k : Kind} {b : Puller} → Known k b → (v : Vec3) (p : 0 < lengthOf v) → k .low ≤ lengthOf v → StandsFor 500 500 k v (wholly (lengthOf v) p)
-whole-placed {k} known v p h =
+body-stands {k = k} known v R t towards nearer =
+    let h = body-far k v t in
     record {
-      towards = whole-stands v p;
-      nearness-is = whole-nearness (k .r0) (lengthOf v) p (omega (arith, known .nearest));
+      towards = stands (wholes v) R towards;
+      nearness-is = nearer (pos (k .r0)) (omega (arith, known .nearest, h));
       reached = h;
     }
+
+pub solid-at :
+    {nu nd nq md mq : ℕ} (m : Vec3) (v w : BodyVector) (L R S : Positive) (g : ℕ)
+    → T (marked m)
+    → Quotients nu E (lengthOf m) L
+    → StandsFor nd nq moon (wholes v) R
+    → StandsFor md mq sun (wholes w) S
+    → solidOff nu nd nq md mq ≤ 1000 * g
+    → Close g (tide m v w) (solidFormula m L (wholes v) R (wholes w) S)
+unfolding tide tideAt sunPart solidOff
+solid-at m v w L R S g t quotients moons suns enough =
+    let u = units (lengthOf m) m in
+    let hu = mark-direction (lengthOf m) m refl (mark-far m t) in
+    let u-is = stands m L quotients in
+    close-is
+    (sum-is (moon-chain u (direction m L) (wholes v) R hu u-is moons) (body-chain sun-known u (direction m L) (wholes w) S hu u-is suns))
+    enough
+
+-- ---- the whole ones themselves
+
+whole-stands : {k : Kind} {b : Puller} (known : Known k b) (v : BodyVector) (p : 0 < lengthOf (wholes v)) → T (inReach k v) → StandsFor 500 500 k (wholes v) (wholly (lengthOf (wholes v)) p)
+whole-stands known v p t =
+    let l = lengthOf (wholes v) in
+    body-stands known v (wholly l p) t (whole-quotients E l p) (whole-quotients 1179275307 l p)
 
 pub solid-within :
     (m : Vec3) (v w : BodyVector) (t : T (marked m)) (a : T (inReach moon v)) (b : T (inReach sun w))
@@ -162,16 +189,14 @@ pub solid-within :
     (solidFormula m (wholly (lengthOf m) (mark-positive m t))
     (wholes v) (wholly (lengthOf (wholes v)) (moon-positive v a))
     (wholes w) (wholly (lengthOf (wholes w)) (sun-positive w b)))
-unfolding tide tideAt sunPart whole-standing whole-two whole-three
 solid-within m v w t a b =
-    let u = units (lengthOf m) m in
-    let L = wholly (lengthOf m) (mark-positive m t) in
-    let hu = mark-direction (lengthOf m) m refl (mark-far m t) in
-    let u-is = whole-stands m (mark-positive m t) in
-    close-is
-    (sum-is
-    (moon-chain whole-standing whole-two whole-three u (direction m L) (wholes v) (wholly (lengthOf (wholes v)) (moon-positive v a)) hu u-is
-    (whole-placed moon-known (wholes v) (moon-positive v a) (body-far moon v a)))
-    (body-chain whole-standing whole-two sun-known u (direction m L) (wholes w) (wholly (lengthOf (wholes w)) (sun-positive w b)) hu u-is
-    (whole-placed sun-known (wholes w) (sun-positive w b) (body-far sun w b))))
-    (lit≤ tt)
+    solid-at m v w
+    (wholly (lengthOf m) (mark-positive m t))
+    (wholly (lengthOf (wholes v)) (moon-positive v a))
+    (wholly (lengthOf (wholes w)) (sun-positive w b))
+    bound
+    t
+    (whole-quotients E (lengthOf m) (mark-positive m t))
+    (whole-stands moon-known v (moon-positive v a) a)
+    (whole-stands sun-known w (sun-positive w b) b)
+    (whole-suffices .solid)

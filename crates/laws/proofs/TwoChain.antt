@@ -4,7 +4,7 @@ use native.Mathlib.Omega.{arith}
 use lib.Dec.{lit<, lit≤}
 use lib.IntN.{ℤ, pos, natAbs, _*ℤ_}
 use Rattle.algebra.specs.Fraction.{Fraction, _≈_, ratio, _-ᶠ_, _*ᶠ_, _·ᶠ_}
-use Rattle.algebra.proofs.Error.{Val, ratioV, scaleV, mulV, plusV, minusV, timesV, weakV, boundV, sameV}
+use Rattle.algebra.proofs.Error.{Val, ratioV, scaleV, mulV, plusV, minusV, timesV, weakV, boundV, sameV, wideV}
 use Rattle.algebra.proofs.Rearranged.{part-same}
 use Rattle.mark.specs.declared.Vec3.{Vec3}
 use Rattle.tides.specs.declared.solid.Standing.{Standing}
@@ -13,7 +13,7 @@ use Rattle.tides.specs.Permanent.{latitude}
 use Rattle.tides.specs.Tide.{strength, height, love, shida, upShare, sideShare, upward, sideways}
 use Rattle.tides.specs.Tide as Tide
 use Rattle.laws.specs.Formulas.{Vector, metre, dot, P2, h2, l2, degreeTwo}
-use Rattle.laws.proofs.ErrorTables.{product, byLatitude, StandingErrors, TwoErrors}
+use Rattle.laws.proofs.StepErrors.{product, cosineOff, heightOff, strengthOff, byLatitude, upShareOff, sideShareOff, upwardOff, sidewaysOff, twoOff}
 use Rattle.laws.proofs.StepValues.{times-is, share-is, height-is, latitude-is}
 use Rattle.laws.proofs.BodyChain.{Metres, Placed, q3-is, c-is, displaced-is, same-is}
 
@@ -36,7 +36,7 @@ module _ {p : ℤ} {P : Fraction} {e : ℕ} (p-is : Val E p P e (E + 548)) where
   l2-is = weakV (plusV (n-is 847) (of-P 2)) (omega arith) (lit≤ tt)
 
 module _
-    {nu nd nq : ℕ} (table : StandingErrors nu nd nq) (two : TwoErrors table) {u : Vec3} {b : Standing} {r R : Vector} {Q : Fraction}
+    {nu nd nq : ℕ} {u : Vec3} {b : Standing} {r R : Vector} {Q : Fraction}
     (placed : Placed nu nd nq u b r R Q) (k0 : ℕ) (K0 K : Fraction)
     (k0-is : Val metre (pos k0) K0 500 523578453)
     (K-same : K0 *ᶠ (Q *ᶠ Q *ᶠ Q) ≈ K)
@@ -47,9 +47,9 @@ module _
   abbrev C : Fraction
   C = dot r R
 
-  k-is : Val metre k K (two .k) 693629844
-  unfolding strength
-  k-is = boundV (sameV K-same (times-is k0-is (q3-is table placed) (two .k-ok) (lit≤ {n = 693629850} tt))) K-small
+  k-is : Val metre k K (strengthOff nq) 693629844
+  unfolding strength strengthOff
+  k-is = boundV (sameV K-same (times-is k0-is (q3-is placed) (lit≤ {n = 693629850} tt))) K-small
 
   abbrev lat : ℤ
   lat = latitude u
@@ -57,33 +57,33 @@ module _
   abbrev P : Fraction
   P = P2 (r .z)
 
-  lat-is : Val E lat P (two .latitude .p) (E + 548)
-  lat-is = latitude-is (two .latitude) (placed .u-is)
+  lat-is : Val E lat P (heightOff nu) (E + 548)
+  lat-is = latitude-is (placed .u-is)
 
-  p-is : Val E (height (b .c)) (P2 C) (table .height .p) (E + 548)
-  p-is = height-is (table .height) (b .c) C (c-is table placed)
+  p-is : Val E (height (b .c)) (P2 C) (heightOff (cosineOff nu nd)) (E + 548)
+  p-is = height-is (b .c) C (c-is placed)
 
-  h-is : Val metre (upShare lat k) (h2 P *ᶠ K) (two .h) 422073761
-  unfolding upShare
-  h-is = share-is (h2-is lat-is) k-is (lit< tt) (two .h-ok) (lit≤ tt)
+  h-is : Val metre (upShare lat k) (h2 P *ᶠ K) (upShareOff nu nq) 422073761
+  unfolding upShare upShareOff
+  h-is = share-is (h2-is lat-is) k-is (lit< tt) (lit≤ tt)
 
-  s-is : Val metre (sideShare lat k) (l2 P *ᶠ K) (two .s) 58958538
-  unfolding sideShare
-  s-is = share-is (l2-is lat-is) k-is (lit< tt) (two .s-ok) (lit≤ tt)
+  s-is : Val metre (sideShare lat k) (l2 P *ᶠ K) (sideShareOff nu nq) 58958538
+  unfolding sideShare sideShareOff
+  s-is = share-is (l2-is lat-is) k-is (lit< tt) (lit≤ tt)
 
-  rho-is : Val metre (upward lat k (b .c)) (h2 P *ᶠ K *ᶠ P2 C) (two .rho) 422075000
-  unfolding upward
-  rho-is = times-is h-is p-is (two .rho-ok) (lit≤ tt)
+  rho-is : Val metre (upward lat k (b .c)) (h2 P *ᶠ K *ᶠ P2 C) (upwardOff nu nd nq) 422075000
+  unfolding upward upwardOff
+  rho-is = times-is h-is p-is (lit≤ tt)
 
-  t-is : Val metre (sideways lat k (b .c)) (pos 3 ·ᶠ (l2 P *ᶠ K *ᶠ C)) (3 * two .t) 176880000
-  unfolding sideways
-  t-is = weakV (timesV (pos 3) (times-is s-is (c-is table placed) (two .t-ok) (lit≤ {n = 58960000} tt))) (omega arith) (lit≤ tt)
+  t-is : Val metre (sideways lat k (b .c)) (pos 3 ·ᶠ (l2 P *ᶠ K *ᶠ C)) (3 * sidewaysOff nu nd nq) 176880000
+  unfolding sideways sidewaysOff
+  t-is = wideV (timesV (pos 3) (times-is s-is (c-is placed) (lit≤ {n = 58960000} tt))) (lit≤ tt)
 
-  pub two-is : Metres (two .x) 780000000 (Tide.degreeTwo k0 u b) (degreeTwo K r R)
-  unfolding Tide.degreeTwo
+  pub two-is : Metres (twoOff nu nd nq) 780000000 (Tide.degreeTwo k0 u b) (degreeTwo K r R)
+  unfolding Tide.degreeTwo twoOff
   two-is =
       same-is
       (part-same K (h2 P) (P2 C) (r .x) (l2 P) C (R .x -ᶠ C *ᶠ r .x))
       (part-same K (h2 P) (P2 C) (r .y) (l2 P) C (R .y -ᶠ C *ᶠ r .y))
       (part-same K (h2 P) (P2 C) (r .z) (l2 P) C (R .z -ᶠ C *ᶠ r .z))
-      (displaced-is table placed (two .x) 780000000 rho-is t-is (two .x-ok) (lit≤ tt))
+      (displaced-is placed 780000000 rho-is t-is (lit≤ tt))

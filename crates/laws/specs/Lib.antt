@@ -1,5 +1,6 @@
 -- What the theorems speak of: the conventional formulas, lists of calls on cards and on bytes, and two cards side by side.
 pub mod Formulas
+pub mod RealDistances
 pub mod Lists
 pub mod ByteLists
 pub mod Core
