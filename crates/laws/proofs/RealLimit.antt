@@ -88,20 +88,28 @@ module _ (m : Vec3) (v w : BodyVector) (t : T (marked m)) (a : T (inReach moon v
       let S = nearly (wholes w) k q (sun-positive w b) in
       (record { mark = L .0; moon = R .0; sun = S .0 }, record { mark = L .1; moon = R .1; sun = S .1 })
 
-  pub solid-limit : CloseToLimit near realBound (tide m v w) formula
-  solid-limit =
+  chosen-nearer : (j k : ℕ) (p : Choice) → k ≤ j → near j p → near k p
+  chosen-nearer j k p q h =
       record {
-        some = chosen;
-        nearer =
-            λ (j k : ℕ) (p : Choice) (q : k ≤ j) (h : near j p).
-            record {
-              mark = nearly-nearer m (p .mark) j k q (h .mark);
-              moon = nearly-nearer (wholes v) (p .moon) j k q (h .moon);
-              sun = nearly-nearer (wholes w) (p .sun) j k q (h .sun);
-            };
-        slope = steepest steady;
-        settles = each-settles steady;
-        close =
-            λ (k : ℕ) (p : Choice) (h : near k p).
-            solid-real m v w (p .mark) (p .moon) (p .sun) t a b (h .mark .from) (h .moon .from) (h .sun .from);
+        mark = nearly-nearer m (p .mark) j k q (h .mark);
+        moon = nearly-nearer (wholes v) (p .moon) j k q (h .moon);
+        sun = nearly-nearer (wholes w) (p .sun) j k q (h .sun);
       }
+
+pub solid-limit :
+    (m : Vec3) (v w : BodyVector)
+    → T (marked m)
+    → T (inReach moon v)
+    → T (inReach sun w)
+    → CloseToLimit (λ (k : ℕ) (p : Choice). Chosen k m (wholes v) (wholes w) p) realBound (tide m v w)
+    (λ (p : Choice). solidFormula m (p .mark) (wholes v) (p .moon) (wholes w) (p .sun))
+solid-limit m v w t a b =
+    record {
+      some = chosen m v w t a b;
+      nearer = chosen-nearer m v w t a b;
+      slope = steepest (steady m v w t a b);
+      settles = each-settles (steady m v w t a b);
+      close =
+          λ (k : ℕ) (p : Choice) (h : Chosen k m (wholes v) (wholes w) p).
+          solid-real m v w (p .mark) (p .moon) (p .sun) t a b (h .mark .from) (h .moon .from) (h .sun .from);
+    }
