@@ -99,12 +99,14 @@ size_t nv_find(const uint8_t *catalogue, size_t len, const uint8_t *key, size_t 
  * Status: 1 out_len is not 3; then those of nv_check. */
 uint32_t nv_metres(const uint8_t *card, size_t card_len, double *out, size_t out_len);
 
-/* The permanent shift at a mark of whole metres, from tide-free to mean-tide: 3 numbers, grains.
+/* The permanent shift at a mark of whole metres, from tide-free to mean-tide: 3 numbers, grains. Each lies within 2,922 grains
+ * (2 micrometres) of the conventions' formula at the mark's real distance, and within 100 at its whole one.
  * Status: 1 out_len is not 3; then 6. */
 uint32_t nv_permanent(int64_t x, int64_t y, int64_t z, int64_t *out, size_t out_len);
 
 /* The solid tides at a mark of whole metres, row by row, as nv_solid_on stores them. `bodies` has n doubles, six to a row:
- * Moon in metres, Sun in kilometres. `out` has m numbers, three to a row, grains.
+ * Moon in metres, Sun in kilometres. `out` has m numbers, three to a row, grains. Each lies within 2,922 grains (2 micrometres) of
+ * the conventions' formula at the real distances, the bodies rounded to wholes, and within 100 at the whole ones.
  * Answers the status + 256 x (the number of rows, or the first bad row, counted from 0, with 10 or 11; 0 with 6 or 16).
  * Status: 6; then 16 unless n is 6 and m is 3 to each of one count of rows; then 10 or 11 of the first bad row. */
 uint64_t nv_series(int64_t x, int64_t y, int64_t z, const double *bodies, size_t n, int64_t *out, size_t m);
