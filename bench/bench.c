@@ -101,13 +101,13 @@ static void card_of(uint8_t s[NV_CARD], unsigned long number)
     {                                                                                                                  \
         unsigned yes = 0;                                                                                              \
         yes += !pre##_move(a, NV_CARD, 1461, b, NV_CARD);                                                                        \
-        yes += !pre##_frame(b, NV_CARD, 1, a, NV_CARD);                                                                          \
+        yes += !pre##_frame(b, NV_CARD, NV_ITRF2005, a, NV_CARD);                                                                \
         yes += !pre##_mean_on(a, NV_CARD, b, NV_CARD);                                                                           \
         yes += !pre##_move(b, NV_CARD, -700, a, NV_CARD);                                                                        \
-        yes += !pre##_frame(a, NV_CARD, 2, b, NV_CARD);                                                                          \
+        yes += !pre##_frame(a, NV_CARD, NV_ITRF93, b, NV_CARD);                                                                  \
         yes += !pre##_mean_off(b, NV_CARD, a, NV_CARD);                                                                          \
         yes += !pre##_solid_on(a, NV_CARD, 0, v[0], v[1], v[2], 1, v[3], v[4], v[5], b, NV_CARD);                                \
-        yes += !pre##_frame(b, NV_CARD, 0, a, NV_CARD);                                                                          \
+        yes += !pre##_frame(b, NV_CARD, NV_ITRF2008, a, NV_CARD);                                                                \
         yes += !pre##_solid_off(a, NV_CARD, b, NV_CARD);                                                                         \
         yes += !pre##_move(b, NV_CARD, 4000, a, NV_CARD);                                                                        \
         return yes;                                                                                                    \

@@ -4,7 +4,7 @@
 #include <math.h>
 #include <string.h>
 
-enum { CARD = NV_CARD, EPOCHS = 146100, SPEEDS = 500000 };
+enum { CARD = NV_CARD, EPOCHS = 146100, SPEEDS = 500000, FRAMES = NV_ITRF88 + 1 };
 
 static const int64_t METRE = 1461000000; /* grains */
 static const int64_t E = 1 << 30;
@@ -140,7 +140,7 @@ uint32_t plain_read(const uint8_t *s, size_t n, struct card *c)
         c->position[i] = (int64_t)be64(s + 40 + 8 * i);
         c->solid[i] = (int64_t)be64(s + 64 + 8 * i);
     }
-    if (c->frame > 2) return 3;
+    if (c->frame >= FRAMES) return 3;
     if (c->tide > 2 || s[11] || (c->tide != 2 && (c->solid[0] | c->solid[1] | c->solid[2]))) return 4;
     if (!inside(c->epoch, EPOCHS)) return 5;
     int64_t m[3];
@@ -190,32 +190,70 @@ uint32_t plain_move(const uint8_t *card, size_t n, int64_t d, uint8_t *out, size
     return end(&c, out);
 }
 
-/* ---- frames: 0.1 mm, 0.01 ppb, and the same a year ---- */
+/* ---- frames: two lines of the table to each, T in 0.1 mm, D in 0.01 ppb, R in 0.01 mas, and the same a year ---- */
 
-static const struct row {
-    int64_t t[3], d, t_rate[3], d_rate;
-} rows[3] = {
-    {{0, 0, 0}, 0, {0, 0, 0}, 0},
-    {{-20, -9, -47}, 94, {3, 0, 0}, 0},
-    {{-19, -17, -105}, 134, {1, 1, -18}, 8},
+static const struct line {
+    int64_t t[3], d, r[3];
+} table[FRAMES][2] = {
+    {{{0, 0, 0}, 0, {0, 0, 0}}, {{0, 0, 0}, 0, {0, 0, 0}}},
+    {{{-20, -9, -47}, 94, {0, 0, 0}}, {{3, 0, 0}, 0, {0, 0, 0}}},
+    {{{-19, -17, -105}, 134, {0, 0, 0}}, {{1, 1, -18}, 8, {0, 0, 0}}},
+    {{{48, 26, -332}, 292, {0, 0, 6}}, {{1, -5, -32}, 9, {0, 0, 2}}},
+    {{{48, 26, -332}, 292, {0, 0, 6}}, {{1, -5, -32}, 9, {0, 0, 2}}},
+    {{{48, 26, -332}, 292, {0, 0, 6}}, {{1, -5, -32}, 9, {0, 0, 2}}},
+    {{{-240, 24, -386}, 341, {-171, -148, -30}}, {{-28, -1, -24}, 9, {-11, -19, 7}}},
+    {{{128, 46, -412}, 221, {0, 0, 6}}, {{1, -5, -32}, 9, {0, 0, 2}}},
+    {{{248, 186, -472}, 361, {0, 0, 6}}, {{1, -5, -32}, 9, {0, 0, 2}}},
+    {{{228, 146, -632}, 391, {0, 0, 6}}, {{1, -5, -32}, 9, {0, 0, 2}}},
+    {{{278, 386, -1012}, 731, {0, 0, 6}}, {{1, -5, -32}, 9, {0, 0, 2}}},
+    {{{228, 26, -1252}, 1041, {10, 0, 6}}, {{1, -5, -32}, 9, {0, 0, 2}}},
 };
 
-static int64_t frame_a(int frame, int i, int64_t m) { return 146100 * rows[frame].t[i] + near(1461 * rows[frame].d * m, 100000); }
+/* near(a/10^14) of an a of up to 77 bits: 10^14 is 5^14 << 14, so that after the shift 64 bits are enough. */
+static inline int64_t near_micro(__int128 a)
+{
+    const uint64_t five = 6103515625, low = (1 << 14) - 1;
+    unsigned __int128 size = a < 0 ? -(unsigned __int128)a : (unsigned __int128)a;
+    uint64_t high = (uint64_t)(size >> 14), q = high / five, r = (high % five) << 14 | ((uint64_t)size & low);
+    q += (five << 14) - r < r + q % 2;
+    return a < 0 ? -(int64_t)q : (int64_t)q;
+}
 
-static int64_t frame_b(int frame, int i, int64_t m) { return 100 * rows[frame].t_rate[i] + near(rows[frame].d_rate * m, 100000); }
+/* T, and what scale and rotation give: k to the micrometre. s is what the rotations give, in 0.01 mas x metres. */
+static inline int64_t term(int64_t k, int64_t t, int64_t d, int64_t m, int64_t s)
+{
+    if (s == 0) return 100 * k * t + near(k * d * m, 100000);
+    return 100 * k * t + near_micro(k * (1000000000 * d * m + (__int128)4848136811 * s));
+}
 
-uint32_t plain_frame(const uint8_t *card, size_t n, uint8_t frame, uint8_t *out, size_t m)
+/* A line at a mark: with k = 1,461 A in grains, with k = 1 B in micrometres a year. */
+static inline void terms(int64_t k, const struct line *p, const int64_t m[3], int64_t out[3])
+{
+    const int64_t *t = p->t, *r = p->r, d = p->d;
+    out[0] = term(k, t[0], d, m[0], r[1] * m[2] - r[2] * m[1]);
+    out[1] = term(k, t[1], d, m[1], r[2] * m[0] - r[0] * m[2]);
+    out[2] = term(k, t[2], d, m[2], r[0] * m[1] - r[1] * m[0]);
+}
+
+uint32_t plain_frame(const uint8_t *card, size_t n, uint32_t frame, uint8_t *out, size_t m)
 {
     struct card c;
     uint32_t r = begin(card, n, m, &c);
     if (r) return r;
-    if (frame > 2) return 3;
-    for (int i = 0; i < 3; i++) {
-        int64_t b = frame_b(frame, i, c.mark[i]) - frame_b(c.frame, i, c.mark[i]);
-        c.velocity[i] += (int32_t)b;
-        c.position[i] += frame_a(frame, i, c.mark[i]) - frame_a(c.frame, i, c.mark[i]) + b * c.epoch;
+    if (frame >= FRAMES) return 3;
+    int64_t mark[3], a[2][3], b[2][3];
+    mark_of(&c, mark);
+    for (int i = 0; i < 2; i++) {
+        const struct line *row = table[i ? frame : c.frame];
+        terms(1461, row, mark, a[i]);
+        terms(1, row + 1, mark, b[i]);
     }
-    c.frame = frame;
+    for (int i = 0; i < 3; i++) {
+        int64_t gain = b[1][i] - b[0][i];
+        c.velocity[i] += (int32_t)gain;
+        c.position[i] += a[1][i] - a[0][i] + gain * c.epoch;
+    }
+    c.frame = (uint8_t)frame;
     if (!velocity_fits(&c)) return 7;
     return end(&c, out);
 }
@@ -316,8 +354,8 @@ static inline uint32_t pair_tide(const int64_t u[3], int64_t p, const double *v,
     return 0;
 }
 
-uint32_t plain_solid_on(const uint8_t *card, size_t n, uint8_t la, double ax, double ay, double az,
-                        uint8_t lb, double bx, double by, double bz, uint8_t *out, size_t m)
+uint32_t plain_solid_on(const uint8_t *card, size_t n, uint32_t la, double ax, double ay, double az,
+                        uint32_t lb, double bx, double by, double bz, uint8_t *out, size_t m)
 {
     struct card c;
     uint32_t r = begin(card, n, m, &c);

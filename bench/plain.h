@@ -17,11 +17,11 @@ struct card {
 uint32_t plain_read(const uint8_t *s, size_t n, struct card *c);
 
 uint32_t plain_move(const uint8_t *card, size_t n, int64_t d, uint8_t *out, size_t m);
-uint32_t plain_frame(const uint8_t *card, size_t n, uint8_t frame, uint8_t *out, size_t m);
+uint32_t plain_frame(const uint8_t *card, size_t n, uint32_t frame, uint8_t *out, size_t m);
 uint32_t plain_mean_on(const uint8_t *card, size_t n, uint8_t *out, size_t m);
 uint32_t plain_mean_off(const uint8_t *card, size_t n, uint8_t *out, size_t m);
-uint32_t plain_solid_on(const uint8_t *card, size_t n, uint8_t la, double ax, double ay, double az,
-                        uint8_t lb, double bx, double by, double bz, uint8_t *out, size_t m);
+uint32_t plain_solid_on(const uint8_t *card, size_t n, uint32_t la, double ax, double ay, double az,
+                        uint32_t lb, double bx, double by, double bz, uint8_t *out, size_t m);
 uint32_t plain_solid_off(const uint8_t *card, size_t n, uint8_t *out, size_t m);
 
 uint64_t plain_series(int64_t x, int64_t y, int64_t z, const double *bodies, size_t n, int64_t *out, size_t m);

@@ -31,6 +31,20 @@ extern "C" {
 #define NV_MOON 0    /* a label; metres */
 #define NV_SUN 1     /* a label; kilometres */
 
+/* The frames of Table 4.1 (IERS Conventions 2010), newest first: their codes, in byte 9 of a card and for nv_frame. */
+#define NV_ITRF2008 0
+#define NV_ITRF2005 1
+#define NV_ITRF2000 2
+#define NV_ITRF97 3
+#define NV_ITRF96 4
+#define NV_ITRF94 5
+#define NV_ITRF93 6
+#define NV_ITRF92 7
+#define NV_ITRF91 8
+#define NV_ITRF90 9
+#define NV_ITRF89 10
+#define NV_ITRF88 11
+
 /* ---- Cards ---- */
 
 /* A card's own checks.
@@ -44,9 +58,11 @@ uint32_t nv_check(const uint8_t *card, size_t card_len);
  * Status, its own: 13, 5, 8. */
 uint32_t nv_move(const uint8_t *card, size_t card_len, int64_t d, uint8_t *out, size_t out_len);
 
-/* Shifts a card to a frame: 0 ITRF2008, 1 ITRF2005, 2 ITRF2000. Position in grains, velocity in micrometres a year.
+/* Shifts a card to a frame, NV_ITRF2008 to NV_ITRF88. Position in grains, velocity in micrometres a year: translation, scale and
+ * rotation of the table at the card's mark and epoch, rounded once. By way of another frame is as direct, and back is exact.
+ * Any other code, however large, is unknown: 3.
  * Status, its own: 3, 7, 8. */
-uint32_t nv_frame(const uint8_t *card, size_t card_len, uint8_t frame, uint8_t *out, size_t out_len);
+uint32_t nv_frame(const uint8_t *card, size_t card_len, uint32_t frame, uint8_t *out, size_t out_len);
 
 /* Adds the permanent shift, in grains: tide-free to mean-tide.
  * Status, its own: 12, 8. */
@@ -58,11 +74,11 @@ uint32_t nv_mean_off(const uint8_t *card, size_t card_len, uint8_t *out, size_t 
 
 /* Adds the solid tide of a Moon and a Sun, in either order, in grains, and stores it in the card: degree two of both, with h
  * and l of the mark's latitude, and degree three of the Moon.
- * A body is a label and three doubles: NV_MOON in metres, NV_SUN in kilometres. Any other label is no body: 17.
+ * A body is a label and three doubles: NV_MOON in metres, NV_SUN in kilometres. Any other label, however large, is no body: 17.
  * Status, its own: 12, 17, 10, 11, 8. */
 uint32_t nv_solid_on(const uint8_t *card, size_t card_len,
-                     uint8_t label_a, double ax, double ay, double az,
-                     uint8_t label_b, double bx, double by, double bz,
+                     uint32_t label_a, double ax, double ay, double az,
+                     uint32_t label_b, double bx, double by, double bz,
                      uint8_t *out, size_t out_len);
 
 /* Takes the stored solid tide away, in grains, as it is stored.

@@ -1,8 +1,8 @@
-"""The altered versions that second/altered.py runs, of numbers, marks, the permanent shift and frames.
+"""The altered versions that second/altered.py runs, of numbers, marks and the permanent shift.
 
 Each is one change in one file of the paper's rules. A row is a name, the old text, which stands exactly once in its file, and the new text.
 Where the change can alter no answer at all, the row's fourth part says why, and the run fails when an answer differs all the same.
-alterations_tides.py and alterations_cards.py have the rows of the other files.
+alterations_frames.py, alterations_tides.py and alterations_cards.py have the rows of the other files.
 """
 
 from typing import NamedTuple
@@ -146,26 +146,4 @@ PERMANENT = (
     *halves("shift-x", "flat * ux", "E"),
     *halves("shift-y", "flat * uy", "E"),
     *halves("shift-z", "(flat + 2 * t) * uz", "E"),
-)
-
-FRAMES = (
-    ("frame-2005-T-x", "(-20, -9, -47)", "(-21, -9, -47)"),
-    ("frame-2005-T-y", "(-20, -9, -47)", "(-20, 9, -47)"),
-    ("frame-2005-T-z", "(-20, -9, -47)", "(-20, -9, -46)"),
-    ("frame-2005-D", "94,", "95,"),
-    ("frame-2005-T-rate", "(3, 0, 0)", "(2, 0, 0)"),
-    ("frame-2005-D-rate", "(3, 0, 0), 0", "(3, 0, 0), 1"),
-    ("frame-2000-T", "(-19, -17, -105)", "(-19, -17, -104)"),
-    ("frame-2000-D", "134,", "133,"),
-    ("frame-2000-T-rate", "(1, 1, -18)", "(1, 0, -18)"),
-    ("frame-2000-D-rate", "(1, 1, -18), 8", "(1, 1, -18), 9"),
-    ("frame-2008-D", "0: ((0, 0, 0), 0,", "0: ((0, 0, 0), 1,"),
-    ("frame-3-known", "return frame in ROWS", "return 0 <= frame <= 3"),
-    *halves("row-a", "1_461 * d * mark[i]", "100_000"),
-    ("row-a-half-up", *half_up("1_461 * d * mark[i]", "100_000")),
-    ("row-a-rounded-first", "near(1_461 * d * mark[i], 100_000)", "1_461 * near(d * mark[i], 100_000)"),
-    *halves("row-b", "d_rate * mark[i]", "100_000"),
-    ("row-b-half-up", *half_up("d_rate * mark[i]", "100_000")),
-    ("position-gain-back", "at_epoch(new, mark, epoch), at_epoch(old, mark, epoch)", "at_epoch(old, mark, epoch), at_epoch(new, mark, epoch)"),
-    ("velocity-gain-back", "row_b(new, mark), row_b(old, mark)", "row_b(old, mark), row_b(new, mark)"),
 )

@@ -1,6 +1,6 @@
 """Do the stored vectors see a wrong rule? Answers them with altered versions of this program, each with one change.
 
-altered.py            every altered version of alterations.py, alterations_tides.py and alterations_cards.py
+altered.py            every altered version of alterations.py, alterations_frames.py, alterations_tides.py and alterations_cards.py
 altered.py NAME..     those named, and where each is first seen
 altered.py --applies  only that each old text stands exactly once in its file
 
@@ -18,6 +18,7 @@ from itertools import zip_longest
 
 import alterations
 import alterations_cards
+import alterations_frames
 import alterations_tides
 from alterations import Alteration
 from tally import Tally
@@ -25,11 +26,13 @@ from tally import Tally
 HERE = os.path.dirname(os.path.abspath(__file__))
 CRATES = os.path.join(HERE, "..", "crates")
 
-SHIFTS = ("rounding", "units", "mark", "permanent", "frames")
+SHIFTS = ("rounding", "units", "mark", "permanent")
+FRAMES = ("frames",)
 TIDES = ("bodies", "solid", "series")
 CARDS = ("card", "field", "metres", "calls", "catalogue", "listing")
 TABLE = [Alteration(row[0], file, *row[1:])
-         for files, table in ((SHIFTS, alterations), (TIDES, alterations_tides), (CARDS, alterations_cards)) for file in files for row in getattr(table, file.upper())]
+         for files, table in ((SHIFTS, alterations), (FRAMES, alterations_frames), (TIDES, alterations_tides), (CARDS, alterations_cards))
+         for file in files for row in getattr(table, file.upper())]
 
 # The crate whose vectors are stored, and what answers them here.
 PROGRAMS = (("replay_shifts", "replay.py"), ("replay", "replay.py"), ("replay_catalogues", "replay.py"), ("list", "listing.py"))

@@ -5,7 +5,8 @@ within 2,922 where the distances are not whole (distances.py). The solid tide st
 under 1 m, and the Moon's third degree by itself within 18,400,000 grains. A card
 exported and expanded keeps each position component within half a unit (73,050
 grains, 0.05 mm) and each velocity within 50 micrometres a year; this is what the
-rounding of a field record allows, and the paper names no other.
+rounding of a field record allows, and the paper names no other. How great the frame
+rows A and B get is worked out, and reached (frame_sizes.py).
 """
 
 import sys
@@ -13,6 +14,7 @@ import sys
 import distances
 import exact
 import field
+import frame_sizes
 import gen_latitude
 import sample
 from bodies import MOON, RANGE, SUN
@@ -108,10 +110,16 @@ def field_bound(rng):
     return t.close()
 
 
+def frame_bound():
+    t = Tally("how great A and B get, and the unit of a rotation")
+    frame_sizes.check(t)
+    return t.close()
+
+
 def main():
     rng = Chance(100)
     tried, stood = all_marks(rng), list(standings(rng))
-    failed = permanent_bound(tried) + solid_bound(stood) + field_bound(rng)
+    failed = permanent_bound(tried) + solid_bound(stood) + field_bound(rng) + frame_bound()
     return 1 if failed + distances.check(tried, stood[::11]) else 0
 
 

@@ -1,4 +1,8 @@
-"""Checks the numbered cases 1 to 13 of the paper against this program."""
+"""Checks the numbered cases 1 to 13 of the paper against this program, then the older frames.
+
+Of the frames: the table as printed (printed.py), the two cases of the request, rows without rotation, unknown codes, and the two laws of
+frame changes, through a third frame and back.
+"""
 
 import sys
 from fractions import Fraction
@@ -8,12 +12,15 @@ import calls
 import field
 import frames
 import listing
-from card import SIZE, Card, check, read, to_bytes
+import printed
+import sample
+from card import EPOCH_MOST, SIZE, Card, check, read, to_bytes
+from chance import Chance
 from permanent import shift
 from rounding import near, whole
 from solid import part
 from tally import Tally
-from units import METRE, ZERO, times
+from units import METRE, ZERO, plus, times
 
 EQUATOR = (6_378_137, 0, 0)  # the mark of case 2
 SITE = b"90001M001"
@@ -107,9 +114,63 @@ def case_13(t):
     t.same("read back", read(record), (0, at_mark(EQUATOR)))
 
 
+def table_as_printed(t):
+    printed.check(t)
+
+
+def older_frames(t):
+    for frame, a, b in ((6, (-3_288_058, -10_046_748, 10_467_597), (-2_226, 2_065, 3_475)),
+                        (11, (130_315_949, 6_509_230, -182_917_200), (674, 118, -3_200))):
+        t.same(f"A of {frame}", frames.row_a(frame, EQUATOR), a)
+        t.same(f"B of {frame}", frames.row_b(frame, EQUATOR), b)
+
+
+def rows_without_rotation(t):
+    """A = 146,100 T + near(1,461 D m/100,000) and B = 100 T + near(D m/100,000), as before the rotations."""
+    plain = [code for code, row in frames.ROWS.items() if row.at.r == row.rates.r == ZERO]
+    t.same("their codes", plain, [0, 1, 2])
+    rng = Chance(42)
+    for mark in (*sample.on_axes(6_400_000), *(sample.mark(rng) for _ in range(200))):
+        for code in plain:
+            _, at, rates = frames.ROWS[code]
+            a = plus(times(at.t, 146_100), [near(1_461 * at.d * m, 100_000) for m in mark])
+            b = plus(times(rates.t, 100), [near(rates.d * m, 100_000) for m in mark])
+            t.same(f"{code} at {mark}", (frames.row_a(code, mark), frames.row_b(code, mark)), (a, b))
+
+
+def unknown_frames(t):
+    """0 to 11 are known, and 12 and above refused with 3: on a card, in a record of both kinds, and as what a call asks for."""
+    for code in range(256):
+        number, card = 0 if code <= 11 else 3, at_mark(EQUATOR, frame=code)
+        t.same(f"card {code}", (check(card), read(to_bytes(card))[0], field.expand(field.to_bytes(card))[0]), (number,) * 3)
+        asked, after = calls.frame(at_mark(EQUATOR), code)
+        t.same(f"asked for {code}", (asked, after.frame), (number, 0 if number else code))
+
+
+def calm_card(rng):
+    """A card in any frame at any epoch that no frame change is refused for."""
+    mark = sample.mark(rng)
+    return at_mark(mark, frame=rng.randrange(12), epoch=rng.randint(-EPOCH_MOST, EPOCH_MOST), velocity=sample.within(rng, 400_000),
+                   position=plus(times(mark, METRE), sample.within(rng, 900 * METRE)))
+
+
+def frame_laws(t):
+    """Through a third frame is the same as direct, and back is exact."""
+    rng = Chance(43)
+    for _ in range(60):
+        card = calm_card(rng)
+        for first in range(12):
+            number, there = calls.frame(card, first)
+            t.same(f"back from {first}", (number, calls.frame(there, card.frame)), (0, (0, card)))
+            for second in range(12):
+                t.same(f"{card.frame} through {first} to {second}", calls.frame(there, second), calls.frame(card, second))
+                t.same("accepted", calls.frame(there, second)[0], 0)
+
+
 def main():
     cases = [case_1, case_2, case_3, case_4, case_5, case_6, case_7, case_8,
-             case_9, case_10, case_11, case_12, case_13]
+             case_9, case_10, case_11, case_12, case_13, table_as_printed, older_frames,
+             rows_without_rotation, unknown_frames, frame_laws]
     failed = 0
     for case in cases:
         tally = Tally(case.__name__.replace("_", " "))

@@ -33,7 +33,7 @@ def bad_sites(rng):
 
 
 def frames_and_tides(rng):
-    for frame in (0, 1, 2, 3, 4, 128, 255):
+    for frame in (0, 1, 2, 12, 13, 128, 255):
         yield base(rng)._replace(frame=frame)
     for tide in (3, 4, 128, 255):
         yield base(rng)._replace(tide=tide)
@@ -137,7 +137,7 @@ def singles(rng):
 
 SPOIL = (
     lambda c: c._replace(site=b"1234XM001"),
-    lambda c: c._replace(frame=3),
+    lambda c: c._replace(frame=12),
     lambda c: c._replace(tide=3),
     lambda c: c._replace(epoch=EPOCH_MOST + 1),
     lambda c: c._replace(mark=(6_299_999, 0, 0)),

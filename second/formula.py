@@ -1,4 +1,4 @@
-"""Checks the paper's formula for any list of calls against the calls themselves.
+"""Checks the paper's formula for any list of calls against the calls themselves, over all twelve frames.
 
 Refused calls change nothing, so only accepted ones count in the net move.
 """
@@ -45,7 +45,7 @@ def random_call(rng, card):
         entries = [(MOON, doubles(sample.moon(rng))), (SUN, doubles(sample.sun(rng)))]
         rng.shuffle(entries)
         return (*calls.solid_on(card, *entries), 0)
-    plain = {1: lambda: calls.frame(card, rng.randrange(4)), 2: lambda: calls.mean_on(card),
+    plain = {1: lambda: calls.frame(card, rng.randrange(14)), 2: lambda: calls.mean_on(card),
              3: lambda: calls.mean_off(card), 5: lambda: calls.solid_off(card)}
     return (*plain[kind](), 0)
 
@@ -57,7 +57,7 @@ def doubles(vector):
 def main():
     rng, t = Chance(13), Tally("formula for lists of calls")
     for _ in range(200):
-        first = last = sample.card(rng, most=990 * METRE)
+        first = last = sample.card(rng, most=990 * METRE)._replace(frame=rng.randrange(12))
         net = 0
         for _ in range(rng.randrange(1, 30)):
             number, after, gained = random_call(rng, last)

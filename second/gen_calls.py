@@ -78,7 +78,7 @@ def moves(rng):
 
 
 def frame_changes(rng):
-    for to in (0, 1, 2, 3, 4, 127, 128, 255):
+    for to in (0, 1, 2, 12, 13, 127, 128, 255):
         for tide in range(3):
             yield payload(damage.base(rng, tide), wire.pack_call(wire.FRAME, to))
     for old in range(3):
@@ -148,7 +148,7 @@ def random_entry(rng, pairs):
         return wire.pack_call(code, rng.choice((0, 1, -1, rng.randint(-2_000, 2_000),
                                                 rng.randint(-200_000, 200_000))))
     if code == wire.FRAME:
-        return wire.pack_call(code, rng.choice((0, 1, 2) * 5 + (3,)))
+        return wire.pack_call(code, rng.choice((0, 1, 2) * 5 + (12,)))
     if code == wire.SOLID_ON:
         return wire.pack_call(code, *(rng.choice(pairs) if rng.randrange(4) == 0
                                       else good_pair(rng)))

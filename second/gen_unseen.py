@@ -84,7 +84,7 @@ def pairs(rng):
 
 def two_faults(rng):
     """Field records with two faults, of neighbouring checks from 2 to 8."""
-    faults = ({"site": b"1234XM001"}, {"frame": 3}, {"tide": 2}, {"epoch": EPOCH_MOST + 1}, {"mark": (6_299_999, 0, 0)},
+    faults = ({"site": b"1234XM001"}, {"frame": 12}, {"tide": 2}, {"epoch": EPOCH_MOST + 1}, {"mark": (6_299_999, 0, 0)},
               {"slow": (0, 5_001, 0)}, {"away": (0, 0, -10_000_001)})
     for first, second in zip(faults, faults[1:]):
         both = {"away": ZERO, "slow": ZERO, **first, **second}
@@ -105,7 +105,7 @@ def zero_tides(rng):
 def twice_refused(rng):
     """A card for each number, and calls that would be refused by their own checks too: the card's number comes first."""
     moon = (MOON, gen_bodies.good(rng, MOON))
-    entries = (wire.pack_call(wire.MOVE, 3 * EPOCH_MOST), wire.pack_call(wire.FRAME, 3), wire.pack_call(wire.SOLID_ON, moon, moon))
+    entries = (wire.pack_call(wire.MOVE, 3 * EPOCH_MOST), wire.pack_call(wire.FRAME, 12), wire.pack_call(wire.SOLID_ON, moon, moon))
     for card in damage.each_number(rng):
         yield gen_calls.payload(card, *entries)
 

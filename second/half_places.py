@@ -65,7 +65,7 @@ SUNS = (
 # more, less and less.
 TWICE = ((314_009_446, 181_293_438), (-339_361_957, -195_930_717), (344_601_375, 198_955_696), (-304_963_617, -176_070_826))
 
-# Marks with halves in the frame rows: an odd multiple of 25,000 m gives one in A of both frames, an odd multiple of 6,250 m one in B of frame 2.
+# Marks with halves in the frame rows: an odd multiple of 25,000 m gives one in A of frames 1 and 2, an odd multiple of 6,250 m one in B of frame 2.
 ROW_MARKS = tuple((157 * 25_000, -147 * 25_000, n * 6_250) for n in (541, -543))
 
 

@@ -11,13 +11,14 @@ import sys
 
 import damage
 import gen_catalogue
+import gen_frames
 import gen_records
 import listing
 import sample
 from card import SIZE
 from chance import Chance
 
-PARTS = 1_200
+PARTS = 1_200  # and then one in each frame, known and unknown
 SHORT = 40  # bytes of the last part
 
 
@@ -48,7 +49,8 @@ def make():
     rng = random.Random(11)
     first = list(early(rng))
     last = gen_records.record(sample.card(rng))[:SHORT]
-    return b"".join(first + later(Chance(55), PARTS - len(first) - 1)) + last
+    frames = gen_frames.in_frames(Chance(56), (*gen_frames.CODES, *gen_frames.UNKNOWN))
+    return b"".join(first + later(Chance(55), PARTS - len(first) - 1) + frames) + last
 
 
 def main(outdir):
@@ -58,7 +60,7 @@ def main(outdir):
         out.write(data)
     with open(os.path.join(outdir, "stdout"), "wb") as out:
         out.write(listing.lines(data).encode("ascii"))
-    print(f"{PARTS} parts, {len(data)} bytes of stdin")
+    print(f"{-(-len(data) // SIZE)} parts, {len(data)} bytes of stdin")
 
 
 if __name__ == "__main__":

@@ -11,6 +11,7 @@ import sys
 
 import gen_calls
 import gen_catalogue
+import gen_frames
 import gen_halves
 import gen_latitude
 import gen_numbers
@@ -35,7 +36,7 @@ SOURCES = (SHARE, (gen_tides.payloads, 37), (gen_records.payloads, 38),
            (gen_calls.payloads, 39), (gen_catalogue.payloads, 40),
            NUMBERS, (gen_catalogue.checks, 41), (gen_unseen.payloads, 42),
            (gen_third.payloads, 43), (gen_halves.payloads, 44), (gen_roots.payloads, 45),
-           (gen_latitude.payloads, 46))
+           (gen_latitude.payloads, 46), (gen_frames.payloads, 47))
 
 # Every number that each call can give; "own" are those after its card's check.
 CARD = (2, 3, 4, 5, 6, 7, 8, 9)

@@ -4,15 +4,20 @@ first x second / E is a half when the two have 29 factors of two together. So on
 
 H and S of degree two are halves where (6,078 E - 6 P) K and (847 E + 2 P) K are odd multiples of 5,000 E, which has 33 factors of two. Where P has
 fewer than 29, the first factor has one more than P. So P and K need 32 together, and K has no more than is found here.
+
+A and B of a frame with rotation are halves only where s, by which the rotations move the mark, is a multiple of 10^9 (frame_places.py).
 """
 
+import math
 import sys
 from bisect import bisect_left
 
+import frames
 from bodies import K0, K0_3, MOON, R0, RANGE, SUN
+from frame_sizes import SQUARE_MOST, squares
 from halves import kind_of, to_odd
 from permanent import NORTH, SLOPE
-from rounding import E, near
+from rounding import E, near, root
 from tally import Tally
 
 
@@ -87,12 +92,48 @@ def love_numbers(t):
             t.same(f"{name} where P is {p}", found, list(range(odd, 20_000, 2 * odd)))
 
 
+def frame_lines():
+    """The lines of the table and what n is multiplied with."""
+    for row in frames.ROWS.values():
+        yield "A", row.name, row.at, 1_461
+        yield "B", row.name, row.rates, 1
+
+
+def rotations(t):
+    """What multiples of 10^9 each component of s can be: 0 alone, but for z of A of ITRF93."""
+    for name, frame, line, _ in frame_lines():
+        for i in range(3):
+            others = [r for k, r in enumerate(line.r) if k != i]
+            most = root(SQUARE_MOST * squares(others)) // 10**9
+            found = [k for k in range(-most, most + 1) if k == 0 or k * 10**9 % math.gcd(*others) == 0]
+            t.same(f"s of {name}, {frame}, {'xyz'[i]}", found, [-1, 0, 1] if (name, frame, i) == ("A", "ITRF93", 2) else [0])
+    for s, wanted in ((1, 61_329), (-1, 38_671)):  # z less a multiple of 100,000 m
+        t.same(f"z where s is {s} billion", [z for z in range(100_000) if (341 * z + frames.UNIT * s) % 100_000 == 50_000], [wanted])
+
+
+# Where s is 0 a half comes up at the odd multiples of so many metres; the first one's whole part is even or odd, the next one's the other.
+ODD_MULTIPLES = {("A", 94): (25_000, "odd"), ("A", 134): (25_000, "odd"), ("A", 292): (12_500, "even"), ("A", 341): (50_000, "even"),
+                 ("A", 221): (50_000, "even"), ("A", 361): (50_000, "even"), ("A", 391): (50_000, "odd"), ("A", 731): (50_000, "odd"),
+                 ("A", 1_041): (50_000, "even"), ("B", 8): (6_250, "even"), ("B", 9): (50_000, "even")}
+
+
+def scales(t):
+    t.same("every D", set(ODD_MULTIPLES), {(name, line.d) for name, _, line, _ in frame_lines() if line.d})
+    for (name, d), (odd, first) in ODD_MULTIPLES.items():
+        scaled = d * (1_461 if name == "A" else 1)
+        found = {m: kind_of(scaled * m, 100_000) for m in range(4 * odd)}
+        wanted = {odd: f"+{first}", 3 * odd: "+odd" if first == "even" else "+even"}
+        t.same(f"{name} with D {d}", {m: kind for m, kind in found.items() if kind}, wanted)
+
+
 def main():
     t = Tally("steps with no half, or with few")
     distances(t, MOON)
     distances(t, SUN)
     directions(t)
     love_numbers(t)
+    rotations(t)
+    scales(t)
     return t.close()
 
 

@@ -125,13 +125,13 @@ enum { BYTES = 1, DOUBLES = 8, NUMBERS = 9 };
 static void card_call(void)
 {
     input_bytes();
-    uint8_t label[2] = {0, 0};
+    uint32_t label[2] = {0, 0};
     double b[6] = {0};
     int64_t d = 0;
     if (!strcmp(name, "move") || !strcmp(name, "frame")) d = number();
     if (!strcmp(name, "solid_on"))
         for (int i = 0; i < 2; i++) {
-            label[i] = (uint8_t)number();
+            label[i] = (uint32_t)number();
             for (int k = 0; k < 3; k++) b[3 * i + k] = bits();
         }
     lend(&out, (size_t)number());
@@ -140,7 +140,7 @@ static void card_call(void)
     size_t n = in.size, m = out.size;
     uint32_t r = 0;
     if (!strcmp(name, "move")) r = nv_move(c, n, d, o, m);
-    else if (!strcmp(name, "frame")) r = nv_frame(c, n, (uint8_t)d, o, m);
+    else if (!strcmp(name, "frame")) r = nv_frame(c, n, (uint32_t)d, o, m);
     else if (!strcmp(name, "mean_on")) r = nv_mean_on(c, n, o, m);
     else if (!strcmp(name, "mean_off")) r = nv_mean_off(c, n, o, m);
     else if (!strcmp(name, "solid_on")) r = nv_solid_on(c, n, label[0], b[0], b[1], b[2], label[1], b[3], b[4], b[5], o, m);

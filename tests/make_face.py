@@ -30,6 +30,9 @@ from units import METRE, plus, times
 
 ROOMS = (SIZE, 0, 1, SIZE - 1, SIZE + 1, 2 * SIZE)
 I_MIN, I_MAX = -(1 << 63), (1 << 63) - 1
+KNOWN = range(12)  # the frames' codes
+# Codes that no frame has: the next ones, the last of a byte, and those that a byte would take for a known one.
+UNKNOWN = (12, 13, 128, 255, 256, 257, 258, 267, 1 << 16, 1 << 31, (1 << 32) - 1)
 
 
 def text(data):
@@ -64,8 +67,7 @@ def card_lines(record, room, rng):
     d = rng.choice((0, 1, -1, 1461, rng.randint(-300_000, 300_000), I_MIN, I_MAX, 1 << 32))
     number, out = called(record, room, lambda c: calls.move(c, d))
     line("move", text(record), d, room, number, text(out))
-    g = rng.choice((0, 1, 2, 0, 1, 2, 3, 255))
-    frame_line(record, room, g)
+    frame_line(record, room, rng.choice((*KNOWN, 12, 255, 256)))
     for name, call in (("mean_on", calls.mean_on), ("mean_off", calls.mean_off), ("solid_off", calls.solid_off)):
         number, out = called(record, room, call)
         line(name, text(record), room, number, text(out))
@@ -123,11 +125,18 @@ def solid_lines(rng):
     for first, second in list(gen_bodies.pairs(rng))[::5] + list(gen_bodies.mixed_pairs(rng)):
         solid_line(free, SIZE, first, second)
     moon, sun = gen_bodies.good(rng, MOON), gen_bodies.good(rng, SUN)
-    for k in (0, 1, 2, 3, 128, 255):
-        for l in (0, 1, 2, 255):
+    for k in (0, 1, 2, 3, 128, 255, 256, 257, (1 << 32) - 1):
+        for l in (0, 1, 2, 255, 256, 257):
             solid_line(free, SIZE, (k, moon), (l, sun))
             solid_line(mean, SIZE, (k, moon), (l, sun))
             solid_line(free, SIZE, (l, sun), (k, moon))
+
+
+def frame_lines(rng):
+    """From every frame to every other and itself, and to codes that none has, at marks of every octant and epochs of every size."""
+    for f in KNOWN:
+        for g in (*KNOWN, *UNKNOWN):
+            frame_line(to_bytes(sample.card(rng, tide=rng.randrange(3), most=10 * METRE)._replace(frame=f)), SIZE, g)
 
 
 def field_lines(rng):
@@ -238,6 +247,7 @@ def main():
         card_lines(record, rng.choice(ROOMS[1:]), rng)
         other_lines(record, rng)
     solid_lines(rng)
+    frame_lines(rng)
     field_lines(rng)
     mark_lines(rng)
     find_lines(rng)

@@ -105,16 +105,17 @@ fn framed(c: Card, frame: u8) -> AtEpoch
     AtEpoch { at, rate }
 }
 
-// 3, 7, 8.
-pub fn reframed(c: Card, frame: u8) -> Answer
+// 3, 7, 8. Any code may be asked for; one that is known fits a byte.
+pub fn reframed(c: Card, frame: u32) -> Answer
     requires { ⌜ K.Valid c ⌝ }
     ensures { λ r. ⌜ r ≡ S.after c (L.frame frame) ⌝ }
 {
-    if frames::LAST_FRAME < frame {
+    if (frames::LAST_FRAME as u32) < frame {
         return Answer { number: 3, card: c };
     }
+    let code = frame as u8;
     let f = framed(c, c.frame);
-    let g = framed(c, frame);
+    let g = framed(c, code);
     let velocity = plus(c.velocity, minus(g.rate, f.rate));
     if !sized(velocity, VELOCITY_MOST) {
         return Answer { number: 7, card: c };
@@ -124,7 +125,7 @@ pub fn reframed(c: Card, frame: u8) -> Answer
         return Answer { number: 8, card: c };
     }
     let mut next = c;
-    next.frame = frame;
+    next.frame = code;
     next.velocity = velocity;
     next.position = position;
     Answer {

@@ -15,7 +15,7 @@ mod vectors;
 pub struct Card {
     // five digits, M or S, three digits
     pub site: [u8; 9],
-    // 0 ITRF2008, 1 ITRF2005, 2 ITRF2000
+    // 0 ITRF2008, 1 ITRF2005, 2 ITRF2000, then 3 ITRF97 to 11 ITRF88
     pub frame: u8,
     // byte 10: 0 tide-free, 1 mean-tide, 2 tide-free with solid tide on
     pub tide: u8,
@@ -47,7 +47,8 @@ pub struct Offset {
 pub enum Call {
     // quarter-days
     Move(i64),
-    Frame(u8),
+    // a code, known or not
+    Frame(u32),
     MeanOn,
     MeanOff,
     SolidOn(Body, Body),
@@ -118,7 +119,7 @@ impl Card {
     }
 
     // Shifts the card to a frame.
-    pub fn to_frame(self, frame: u8) -> Answer
+    pub fn to_frame(self, frame: u32) -> Answer
         ensures { λ r. ⌜ r ≡ L.step self (L.frame frame) ⌝ }
     {
         let number = checks::refusal_of(self, true);

@@ -51,7 +51,7 @@ gain-back f g m = minus-return (frameB f m) (frameB g m)
 
 -- the last one
 abbrev pub lastFrame : ℕ
-lastFrame = 2
+lastFrame = 11
 
 pub frame-known : (g : ℕ) → g ≤ lastFrame → knownFrame g ≡ true
 unfolding knownFrame

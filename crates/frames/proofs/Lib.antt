@@ -1,3 +1,4 @@
 -- The laws of the frames.
+pub mod LineLaws
 pub mod RowLaws
 pub mod FrameLaws

@@ -1,32 +1,51 @@
 -- How large the rows are, by one test over the table, and A and B at every accepted mark.
-use mathlib.Core.Path.{_≡_, refl}
+use mathlib.Core.Path.{_≡_, refl, subst}
 use mathlib.Core.Bool.{Bool, true, _&&_}
 use mathlib.Core.List.{List, [], _∷_}
 use Prim.Native.Nat.{ℕ, zero, suc, _+_, _*_, _≤_}
-use native.Mathlib.Nat.{le-trans}
 use borrow.Author.Tests.{leb-true}
-use lib.Dec.{leb, lit≤}
+use lib.Dec.{leb}
 use lib.ListN.{getD}
-use lib.IntN.{ℤ, pos, natAbs, _*ℤ_}
+use lib.IntN.{ℤ, pos, natAbs}
 use Rattle.algebra.proofs.BoolLaws.{both}
-use Rattle.algebra.proofs.Machine.{plain, lit, v+, v*}
-use Rattle.numbers.specs.Near.{near}
-use Rattle.numbers.proofs.NearLaws.{near-bound}
 use Rattle.mark.specs.declared.Vec3.{Vec3}
 use Rattle.mark.specs.Mark.{sized}
 use Rattle.mark.specs.Ranges.{Within}
 use Rattle.mark.proofs.SizeLaws.{sized-is, plus-within, minus-within, scaled-within}
+use Rattle.frames.specs.declared.rows.Line.{Line}
 use Rattle.frames.specs.declared.rows.Row.{Row}
-use Rattle.frames.specs.Frame.{itrf2008, rows, rowOf, offset, drift, frameA, frameB, frameAt, frameShift, frameGain}
+use Rattle.frames.specs.Frame.{itrf2008, rows, rowOf, micro, turned, frameA, frameB, frameAt, frameShift, frameGain}
+use Rattle.frames.specs.Lines.{LineWithin, term, terms}
+use Rattle.frames.proofs.LineLaws.{most, reach, term-bound, turn-bound, terms-offset, terms-drift}
+
+-- the largest component of A at marks of at most 6,400,000 m a component, grains: ITRF88's z
+abbrev pub mostA : ℕ
+mostA = 284788066
+
+-- the same of B, grains a quarter-day: ITRF93's z
+abbrev pub mostB : ℕ
+mostB = 12284
 
 -- ---- the rows: one test over the table
 
--- T, D and their rates are at most 10,000 in size, in the table's units
-abbrev limit : ℕ
-limit = 10000
+-- a line's numbers are in the range that the steps ask for
+abbrev inRange : Line → Bool
+inRange p = sized 10000 (p .t) && (leb (natAbs (p .d)) 10000 && sized 500 (p .r))
+
+-- a component, turned by a and b, comes to at most top, rounded
+abbrev comesTo : ℕ → ℕ → ℤ → ℤ → ℤ → ℤ → Bool
+comesTo k top t d a b = leb (2 * reach k t d a b + 1) ((2 * top + 1) * micro)
+
+abbrev staysUnder : ℕ → ℕ → Line → Bool
+staysUnder k top p =
+    comesTo k top (p .t .x) (p .d) (p .r .y) (p .r .z)
+    && (comesTo k top (p .t .y) (p .d) (p .r .z) (p .r .x) && comesTo k top (p .t .z) (p .d) (p .r .x) (p .r .y))
+
+abbrev lineFits : ℕ → ℕ → Line → Bool
+lineFits k top p = inRange p && staysUnder k top p
 
 abbrev rowFits : Row → Bool
-rowFits r = sized limit (r .t) && (leb (natAbs (r .d)) limit && (sized limit (r .trate) && leb (natAbs (r .drate)) limit))
+rowFits r = lineFits 1461 mostA (r .at) && lineFits 1 mostB (r .rates)
 
 abbrev allFit : List Row → Bool
 allFit [] = true
@@ -45,77 +64,73 @@ none-fits : rowFits itrf2008 ≡ true
 unfolding sized
 none-fits = refl
 
-pub record RowSmall (r : Row) : Type 0 where
-  pub t : Within 10000 (r .t)
-  pub d : natAbs (r .d) ≤ 10000
-  pub trate : Within 10000 (r .trate)
-  pub drate : natAbs (r .drate) ≤ 10000
-
-small-of : (r : Row) → rowFits r ≡ true → RowSmall r
-small-of r e =
-    let a = both (sized limit (r .t)) (leb (natAbs (r .d)) limit && (sized limit (r .trate) && leb (natAbs (r .drate)) limit)) e in
-    let b = both (leb (natAbs (r .d)) limit) (sized limit (r .trate) && leb (natAbs (r .drate)) limit) (a .1) in
-    let c = both (sized limit (r .trate)) (leb (natAbs (r .drate)) limit) (b .1) in
-    record {
-      t = sized-is limit (r .t) (a .0);
-      d = leb-true (natAbs (r .d)) limit (b .0);
-      trate = sized-is limit (r .trate) (c .0);
-      drate = leb-true (natAbs (r .drate)) limit (c .1);
-    }
-
-pub row-small : (code : ℕ) → RowSmall (rowOf code)
+row-fits : (code : ℕ) → rowFits (rowOf code) ≡ true
 unfolding rowOf
-row-small code = small-of (getD rows code itrf2008) (at-place rows code table-fits none-fits)
+row-fits code = at-place rows code table-fits none-fits
 
--- ---- A and B, at an accepted mark
+-- ---- what a line gives, at a mark of at most 6,400,000 m a component
 
-offset-bound : (t d m : ℤ) → natAbs t ≤ 10000 → natAbs d ≤ 10000 → natAbs m ≤ 6400000 → natAbs (offset t d m) ≤ 2500000000
-unfolding offset
-offset-bound t d m ht hd hm =
-    le-trans
-    (v+ {m = 935040000} (v* (lit 146100) (plain t ht))
-    (plain (near (pos 1461 *ℤ d *ℤ m) 100000) (near-bound (pos 1461 *ℤ d *ℤ m) 100000 935040000 (v* (v* (lit 1461) (plain d hd)) (plain m hm) .small)))
-    .small)
-    (lit≤ tt)
+in-range : (p : Line) → inRange p ≡ true → LineWithin p
+in-range p e =
+    let a = both (sized 10000 (p .t)) (leb (natAbs (p .d)) 10000 && sized 500 (p .r)) e in
+    let b = both (leb (natAbs (p .d)) 10000) (sized 500 (p .r)) (a .1) in
+    record { t = sized-is 10000 (p .t) (a .0); d = leb-true (natAbs (p .d)) 10000 (b .0); r = sized-is 500 (p .r) (b .1) }
 
-drift-bound : (t d m : ℤ) → natAbs t ≤ 10000 → natAbs d ≤ 10000 → natAbs m ≤ 6400000 → natAbs (drift t d m) ≤ 2000000
-unfolding drift
-drift-bound t d m ht hd hm =
-    le-trans
-    (v+ {m = 640000} (v* (lit 100) (plain t ht)) (plain (near (d *ℤ m) 100000) (near-bound (d *ℤ m) 100000 640000 (v* (plain d hd) (plain m hm) .small))) .small)
-    (lit≤ tt)
+module _ (k top : ℕ) (p : Line) (e : lineFits k top p ≡ true) where
+  pub line-within : LineWithin p
+  line-within = in-range p (both (inRange p) (staysUnder k top p) e .0)
 
-pub frame-a-within : (g : ℕ) (m : Vec3) → Within 6400000 m → Within 2500000000 (frameA g m)
-unfolding frameA
-frame-a-within g m w =
-    let r = row-small g in
-    record {
-      x = offset-bound (rowOf g .t .x) (rowOf g .d) (m .x) (r .t .x) (r .d) (w .x);
-      y = offset-bound (rowOf g .t .y) (rowOf g .d) (m .y) (r .t .y) (r .d) (w .y);
-      z = offset-bound (rowOf g .t .z) (rowOf g .d) (m .z) (r .t .z) (r .d) (w .z);
-    }
+  -- one component
+  bounded : (t d m s a b : ℤ) → natAbs m ≤ most → natAbs s ≤ natAbs a * most + natAbs b * most → comesTo k top t d a b ≡ true → natAbs (term (pos k) t d m s) ≤ top
+  bounded t d m s a b hm hs c = term-bound k top t d m s a b hm hs (leb-true (2 * reach k t d a b + 1) ((2 * top + 1) * micro) c)
 
-pub frame-b-within : (g : ℕ) (m : Vec3) → Within 6400000 m → Within 2000000 (frameB g m)
-unfolding frameB
-frame-b-within g m w =
-    let r = row-small g in
-    record {
-      x = drift-bound (rowOf g .trate .x) (rowOf g .drate) (m .x) (r .trate .x) (r .drate) (w .x);
-      y = drift-bound (rowOf g .trate .y) (rowOf g .drate) (m .y) (r .trate .y) (r .drate) (w .y);
-      z = drift-bound (rowOf g .trate .z) (rowOf g .drate) (m .z) (r .trate .z) (r .drate) (w .z);
-    }
+  pub terms-within : (m : Vec3) → Within most m → Within top (terms (pos k) p m)
+  unfolding terms turned
+  terms-within m w =
+      let t = p .t in
+      let r = p .r in
+      let s = turned r m in
+      let Y = comesTo k top (t .y) (p .d) (r .z) (r .x) in
+      let Z = comesTo k top (t .z) (p .d) (r .x) (r .y) in
+      let x = both (comesTo k top (t .x) (p .d) (r .y) (r .z)) (Y && Z) (both (inRange p) (staysUnder k top p) e .1) in
+      let yz = both Y Z (x .1) in
+      record {
+        x = bounded (t .x) (p .d) (m .x) (s .x) (r .y) (r .z) (w .x) (turn-bound (r .y) (r .z) (m .z) (m .y) (w .z) (w .y)) (x .0);
+        y = bounded (t .y) (p .d) (m .y) (s .y) (r .z) (r .x) (w .y) (turn-bound (r .z) (r .x) (m .x) (m .z) (w .x) (w .z)) (yz .0);
+        z = bounded (t .z) (p .d) (m .z) (s .z) (r .x) (r .y) (w .z) (turn-bound (r .x) (r .y) (m .y) (m .x) (w .y) (w .x)) (yz .1);
+      }
+
+-- ---- the two lines of a frame
+
+module _ (g : ℕ) where
+  two : (lineFits 1461 mostA (rowOf g .at) ≡ true) × (lineFits 1 mostB (rowOf g .rates) ≡ true)
+  two = both (lineFits 1461 mostA (rowOf g .at)) (lineFits 1 mostB (rowOf g .rates)) (row-fits g)
+
+  pub at-line : LineWithin (rowOf g .at)
+  at-line = line-within 1461 mostA (rowOf g .at) (two .0)
+
+  pub rates-line : LineWithin (rowOf g .rates)
+  rates-line = line-within 1 mostB (rowOf g .rates) (two .1)
+
+  pub frame-a-within : (m : Vec3) → Within most m → Within mostA (frameA g m)
+  unfolding frameA
+  frame-a-within m w = subst (λ (v : Vec3). Within mostA v) (terms-offset (rowOf g .at) m) (terms-within 1461 mostA (rowOf g .at) (two .0) m w)
+
+  pub frame-b-within : (m : Vec3) → Within most m → Within mostB (frameB g m)
+  unfolding frameB
+  frame-b-within m w = subst (λ (v : Vec3). Within mostB v) (terms-drift (rowOf g .rates) m) (terms-within 1 mostB (rowOf g .rates) (two .1) m w)
 
 -- ---- what a card gains, at an epoch in its range
 
-pub gain-within : (f g : ℕ) (m : Vec3) → Within 6400000 m → Within (2000000 + 2000000) (frameGain f g m)
+pub gain-within : (f g : ℕ) (m : Vec3) → Within most m → Within (mostB + mostB) (frameGain f g m)
 unfolding frameGain
 gain-within f g m w = minus-within (frame-b-within g m w) (frame-b-within f m w)
 
-module _ (epoch : ℤ) (m : Vec3) (w : Within 6400000 m) (h : natAbs epoch ≤ 146100) where
-  pub at-within : (g : ℕ) → Within (2500000000 + 146100 * 2000000) (frameAt g m epoch)
+module _ (epoch : ℤ) (m : Vec3) (w : Within most m) (h : natAbs epoch ≤ 146100) where
+  pub at-within : (g : ℕ) → Within (mostA + 146100 * mostB) (frameAt g m epoch)
   unfolding frameAt
   at-within g = plus-within (frame-a-within g m w) (scaled-within epoch h (frame-b-within g m w))
 
-  pub shift-within : (f g : ℕ) → Within (2500000000 + 146100 * 2000000 + (2500000000 + 146100 * 2000000)) (frameShift f g epoch m)
+  pub shift-within : (f g : ℕ) → Within (mostA + 146100 * mostB + (mostA + 146100 * mostB)) (frameShift f g epoch m)
   unfolding frameShift
   shift-within f g = minus-within (at-within g) (at-within f)

@@ -3,10 +3,11 @@ ghost use mathlib.Core.Path.{_≡_};
 ghost use Rattle.frames.specs.Frame as F;
 use mark::Vec3;
 
+mod lines;
 mod rows;
 
-// The last frame: 0 ITRF2008, 1 ITRF2005, 2 ITRF2000.
-pub const LAST_FRAME: u8 = 2;
+// The last frame: 0 ITRF2008, 1 ITRF2005, 2 ITRF2000, 3 ITRF97, 4 ITRF96, 5 ITRF94, 6 ITRF93, 7 ITRF92, 8 ITRF91, 9 ITRF90, 10 ITRF89, 11 ITRF88.
+pub const LAST_FRAME: u8 = 11;
 
 // A refusal number, and A in grains, B in grains a quarter-day: zeros when refused.
 pub struct Terms {
@@ -37,15 +38,7 @@ pub fn frame_terms(m: Vec3, frame: u8) -> Terms
     let r = rows::row_of(frame);
     Terms {
         number: 0,
-        a: Vec3 {
-            x: rows::offset(r.t.x, r.d, m.x),
-            y: rows::offset(r.t.y, r.d, m.y),
-            z: rows::offset(r.t.z, r.d, m.z),
-        },
-        b: Vec3 {
-            x: rows::drift(r.trate.x, r.drate, m.x),
-            y: rows::drift(r.trate.y, r.drate, m.y),
-            z: rows::drift(r.trate.z, r.drate, m.z),
-        },
+        a: lines::terms(1461, r.at, m),
+        b: lines::terms(1, r.rates, m),
     }
 }

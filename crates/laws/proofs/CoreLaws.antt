@@ -92,7 +92,7 @@ core-moved d c = λ i.
     }
 
 -- a frame change keeps the core
-core-reframed : (g : ℕ) (c : Card) → core (reframed g c) ≡ core c
+pub core-reframed : (g : ℕ) (c : Card) → core (reframed g c) ≡ core c
 unfolding core reframed bare steady frameShift frameGain
 core-reframed g c = λ i.
     record {

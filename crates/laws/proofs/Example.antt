@@ -12,7 +12,7 @@ use Rattle.numbers.specs.Root.{refine, rootIn, root}
 use Rattle.numbers.specs.Whole.{wholeOf}
 use Rattle.mark.specs.declared.Vec3.{Vec3}
 use Rattle.mark.specs.Mark.{vec, nowhere, squares, lengthOf, marked, plus, sized, minus, scaled}
-use Rattle.frames.specs.Frame.{knownFrame, rowOf, offset, drift, frameA, frameB, frameAt, frameShift, frameGain}
+use Rattle.frames.specs.Frame.{knownFrame, rowOf, turned, linear, offset, drift, frameA, frameB, frameAt, frameShift, frameGain}
 use Rattle.tides.specs.Direction.{times, unit, legendre}
 use Rattle.tides.specs.Permanent.{s2, latitude, small, radial, north, down, across, along, permanentOf, permanent}
 use Rattle.tides.specs.declared.Body.{Body}
@@ -39,7 +39,7 @@ unfolding knownFrame marked lengthOf squares root rootIn refine plus minus scale
 marking = 0
 
 unfoldable shifting : ℕ
-unfolding nearest near times unit s2 legendre latitude small radial north down across along permanentOf permanent rowOf offset drift frameA frameB frameAt frameShift frameGain
+unfolding nearest near times unit s2 legendre latitude small radial north down across along permanentOf permanent rowOf turned linear offset drift frameA frameB frameAt frameShift frameGain
 shifting = 0
 
 unfoldable tiding : ℕ
@@ -65,9 +65,9 @@ sunAside = Sun (record { x = ofBits binary64 0; y = ofBits binary64 0x41a1_d55d_
 abbrev pub untilTide : List Call
 untilTide = move (pos 1461) ∷ meanOn ∷ meanOn ∷ frame 1 ∷ meanOff ∷ solidOn moonAhead sunAside ∷ []
 
--- ITRF2000 under the tide; a move under it (13); solid off; 146,100 more (5); frame 9 (3)
+-- ITRF93 under the tide; ITRF2000 from there; a move under it (13); solid off; 146,100 more (5); frame 12 (3)
 abbrev pub afterTide : List Call
-afterTide = frame 2 ∷ move (pos 1) ∷ solidOff ∷ move (pos 146100) ∷ frame 9 ∷ []
+afterTide = frame 6 ∷ frame 2 ∷ move (pos 1) ∷ solidOff ∷ move (pos 146100) ∷ frame 12 ∷ []
 
 abbrev pub calls : List Call
 calls = untilTide ++ afterTide
@@ -76,7 +76,7 @@ pub example-valid : Valid example
 unfolding Valid cardNumber computing
 example-valid = tt
 
-pub example-numbers : numbers example calls ≡ 0 ∷ 0 ∷ 12 ∷ 0 ∷ 0 ∷ 0 ∷ 0 ∷ 13 ∷ 0 ∷ 5 ∷ 3 ∷ []
+pub example-numbers : numbers example calls ≡ 0 ∷ 0 ∷ 12 ∷ 0 ∷ 0 ∷ 0 ∷ 0 ∷ 0 ∷ 13 ∷ 0 ∷ 5 ∷ 3 ∷ []
 unfolding numbers computing
 example-numbers = refl
 
@@ -96,7 +96,7 @@ pub example-tided :
 unfolding run computing
 example-tided = refl
 
--- ITRF2000 adds (9,710,834, -2,483,700, -15,340,500) + (610, 100, -1,800) x 1,461
+-- ITRF93 leaves nothing behind; ITRF2000 adds (9,710,834, -2,483,700, -15,340,500) + (610, 100, -1,800) x 1,461
 pub example-run :
     run example calls
     ≡ laterIn 2 0 (vec (pos 20610) (pos 100) (negℤ (pos 1800))) (vec (pos 9318458196822044) (negℤ (pos 2337600)) (negℤ (pos 17970300))) nowhere

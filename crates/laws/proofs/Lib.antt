@@ -21,6 +21,8 @@ pub mod StaysValid
 pub mod EitherOrder
 pub mod ListTheorem
 pub mod IdleCalls
+pub mod FrameCalls
+pub mod FirstFrames
 pub mod TwoCardLaws
 pub mod FieldBound
 pub mod FieldEdition

@@ -51,6 +51,11 @@ pub record Starred : Type 0 where
   pub case-4 : (frameA 1 equator ≡ vec (pos 5837351) (negℤ (pos 1314900)) (negℤ (pos 6866700))) × (frameB 1 equator ≡ vec (pos 300) (pos 0) (pos 0))
   -- same, ITRF2000: A = (9,710,834, -2,483,700, -15,340,500), B = (610, 100, -1,800)
   pub case-5 : (frameA 2 equator ≡ vec (pos 9710834) (negℤ (pos 2483700)) (negℤ (pos 15340500))) × (frameB 2 equator ≡ vec (pos 610) (pos 100) (negℤ (pos 1800)))
+  -- the same of two older frames, with rotations, as the request for them has it. ITRF93: A = (-3,288,058, -10,046,748, 10,467,597),
+  -- B = (-2,226, 2,065, 3,475)
+  pub older-93 : (frameA 6 equator ≡ vec (negℤ (pos 3288058)) (negℤ (pos 10046748)) (pos 10467597)) × (frameB 6 equator ≡ vec (negℤ (pos 2226)) (pos 2065) (pos 3475))
+  -- ITRF88: A = (130,315,949, 6,509,230, -182,917,200), B = (674, 118, -3,200)
+  pub older-88 : (frameA 11 equator ≡ vec (pos 130315949) (pos 6509230) (negℤ (pos 182917200))) × (frameB 11 equator ≡ vec (pos 674) (pos 118) (negℤ (pos 3200)))
   -- ITRF2005 shift in x at epoch 7,305: 8,028,851
   pub case-6 : frameShift 0 1 (pos 7305) equator .x ≡ pos 8028851
   -- velocity 20,000 moved 1,461: accepted, 29,220,000 grains

@@ -17,7 +17,7 @@ use tides::Body;
 use tides::BodyVector;
 
 // A body by its label, 1 a Sun and 0 a Moon, where both labels of the call are such. Else a Moon at `none`, and two Moons are no pair.
-fn labelled(la: u8, lb: u8, label: u8, none: BodyVector, v: BodyVector) -> Body
+fn labelled(la: u32, lb: u32, label: u32, none: BodyVector, v: BodyVector) -> Body
     ensures { λ r. ⌜ r ≡ P.labelled la lb label none v ⌝ }
 {
     if 1 < la {
@@ -57,9 +57,9 @@ pub extern "C" fn nv_move(s: &[u8], d: i64, out: &mut [u8]) -> u32
     records::move_by(s, d, out)
 }
 
-// Shifts a card to a frame: 0 ITRF2008, 1 ITRF2005, 2 ITRF2000.
+// Shifts a card to a frame, 0 ITRF2008 to 11 ITRF88. The code has 32 bits, so that 256 is refused and not taken for 0; the labels of bodies likewise.
 #[no_mangle]
-pub extern "C" fn nv_frame(s: &[u8], frame: u8, out: &mut [u8]) -> u32
+pub extern "C" fn nv_frame(s: &[u8], frame: u32, out: &mut [u8]) -> u32
     ensures { λ r. ⌜ r ≡ B.bytesNumber (length (now (out .entry))) (now (s .entry)) (L.frame frame) ⌝ }
     ensures { λ r. ⌜ now (out .exit) ≡ B.bytesOut (now (out .entry)) (now (s .entry)) (L.frame frame) ⌝ }
 {
@@ -98,11 +98,11 @@ pub extern "C" fn nv_solid_off(s: &[u8], out: &mut [u8]) -> u32
 #[no_mangle]
 pub extern "C" fn nv_solid_on(
     s: &[u8],
-    la: u8,
+    la: u32,
     ax: f64,
     ay: f64,
     az: f64,
-    lb: u8,
+    lb: u32,
     bx: f64,
     by: f64,
     bz: f64,

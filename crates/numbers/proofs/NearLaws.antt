@@ -1,4 +1,4 @@
--- The laws of `near`: off by at most a half, odd, the same for equal fractions, moved by an even whole number as the fraction is, exact at multiples, not
+-- The laws of `near`: off by at most a half, so what is left and how large it is; odd, the same for equal fractions, moved by an even whole number as the fraction is, exact at multiples, not
 -- negative where the fraction is not, and no larger than a whole bound; a number nearer than a half is the one, and between neighbours of an even
 -- denominator nothing changes. They stand on `near-is` and `near-only` of NearRule.antt. Nothing above may use more of `near` than these two and the laws, so that
 -- another rule for halves changes that file, and here the move by an even number.
@@ -12,7 +12,7 @@ use lib.IntN.{ℤ, pos, negsuc, negℤ, natAbs, _+ℤ_, _-ℤ_, _*ℤ_}
 use lib.Signed.{_≤ℤ_, _<ℤ_}
 use Rattle.algebra.specs.Rounding.{Half}
 use Rattle.algebra.proofs.Difference.{split, ℤ⊖}
-use Rattle.algebra.proofs.IntLaws.{0≤→pos, abs-swap, abs-*}
+use Rattle.algebra.proofs.IntLaws.{0≤→pos, abs-swap, apart, abs-*}
 use Rattle.algebra.proofs.Ring.{by-ring, quote}
 use Rattle.algebra.proofs.Error.{quotient-size}
 use Rattle.numbers.specs.Near.{nearest, near, IsNear}
@@ -21,6 +21,14 @@ use Rattle.numbers.proofs.NearRule.{nearest-by-zero, strictly, carried,
 -- off by at most a half
 pub near-half : (a : ℤ) (b : ℕ) → 0 < b → Half a b (near a b)
 near-half a b h = near-is a b h .half
+
+-- so what is left of a, with the multiple taken away, is at most half of b
+pub near-rest : (a : ℤ) (b : ℕ) → 0 < b → 2 * natAbs (a -ℤ pos b *ℤ near a b) ≤ b
+near-rest a b h = omega (arith, abs-swap a (pos b *ℤ near a b), near-half a b h .off)
+
+-- and near is at most a half larger than the fraction
+pub near-size : (a : ℤ) (b : ℕ) → 0 < b → 2 * (b * natAbs (near a b)) ≤ 2 * natAbs a + b
+near-size a b h = omega (arith, apart (pos b *ℤ near a b) a, abs-* (pos b) (near a b), near-half a b h .off)
 
 -- a whole number that is nearer to a/b than a half is near(a/b)
 pub near-strict : (a : ℤ) (b : ℕ) (q : ℤ) → 2 * natAbs (a -ℤ pos b *ℤ q) < b → near a b ≡ q

@@ -20,7 +20,7 @@ pub fn move_by(s: &[u8], d: i64, out: &mut [u8]) -> u32
 }
 
 // Shifts the card to a frame.
-pub fn to_frame(s: &[u8], frame: u8, out: &mut [u8]) -> u32
+pub fn to_frame(s: &[u8], frame: u32, out: &mut [u8]) -> u32
     ensures { λ r. ⌜ r ≡ B.bytesNumber (length (now (out .entry))) (now (s .entry)) (L.frame frame) ⌝ }
     ensures { λ _. ⌜ now (out .exit) ≡ B.bytesOut (now (out .entry)) (now (s .entry)) (L.frame frame) ⌝ }
 {

@@ -32,7 +32,7 @@ fn places_of_calls(s: &[u8]) -> usize
 fn called(c: Card, s: &[u8]) -> Answer {
     match wire::byte_at(s, 0) {
         1 => c.move_by(octets::signed_at(s, 1, 8)),
-        2 => c.to_frame(wire::byte_at(s, 1)),
+        2 => c.to_frame(wire::byte_at(s, 1) as u32),
         3 => c.mean_on(),
         4 => c.mean_off(),
         5 => solid_on(c, s),

@@ -18,10 +18,9 @@ use Rattle.tides.specs.Permanent.{s2, latitude}
 use Rattle.tides.specs.Tide.{nearness, cube, component, displaced, strength, height, upShare, sideShare, upward, sideways, degreeTwo}
 use Rattle.tides.specs.Steps.{Stood}
 use Rattle.tides.proofs.StepLaws.{times-bound}
-use Rattle.tides.proofs.DirectionLaws.{near-size}
 use Rattle.tides.proofs.ShareLaws.{up-share-size, side-share-size}
 use Rattle.numbers.specs.Near.{near}
-use Rattle.numbers.proofs.NearLaws.{near-bound, near-natural}
+use Rattle.numbers.proofs.NearLaws.{near-size, near-bound, near-natural}
 
 -- ---- the strength
 

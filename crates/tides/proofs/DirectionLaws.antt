@@ -8,7 +8,7 @@ use Prim.Native.Nat.{ℕ, suc, _+_, _*_, _≤_, _<_}
 use native.Mathlib.Nat.{le-refl, le-trans, mul-le-mul, lt-of-not-le, le-of-suc-le-suc}
 use native.Mathlib.Omega.{arith}
 use lib.IntN.{ℤ, pos, natAbs, _+ℤ_, _-ℤ_, _*ℤ_}
-use Rattle.algebra.proofs.IntLaws.{apart, abs-+, abs-*, square}
+use Rattle.algebra.proofs.IntLaws.{abs-+, abs-*, square}
 use Rattle.algebra.proofs.Machine.{plain, lit, v*}
 use Rattle.algebra.proofs.Ring.{quote}
 use Rattle.algebra.proofs.Certificate.{slackℕ, natural, _⊞_, _⊠_, _⊡_, poly≤ℕ}
@@ -22,7 +22,7 @@ use Rattle.tides.specs.Steps.{Direction}
 use Rattle.numbers.specs.Near.{near}
 use Rattle.numbers.specs.Root.{IsRoot}
 use Rattle.numbers.proofs.RootLaws.{root-is}
-use Rattle.numbers.proofs.NearLaws.{near-half, near-bound}
+use Rattle.numbers.proofs.NearLaws.{near-size, near-bound}
 
 -- ---- the whole length
 
@@ -50,11 +50,6 @@ direction-within l v e =
     }
 
 -- ---- the sum of the squares
-
--- what `near` says of sizes: off by at most a half
-pub near-size : (a : ℤ) (b : ℕ) → 0 < b → 2 * (b * natAbs (near a b)) ≤ 2 * natAbs a + b
-near-size a b h =
-    omega (arith, apart (pos b *ℤ near a b) a, abs-* (pos b) (near a b), near-half a b h .off)
 
 unit-size : (l : ℕ) (m : ℤ) → 0 < l → 2 * (l * natAbs (unit l m)) ≤ 2 * (natAbs m * E) + l
 unfolding unit

@@ -6,25 +6,20 @@ use native.Mathlib.Nat.{le-refl, mul-le-mul}
 use native.Mathlib.Omega.{arith}
 use lib.Dec.{lit<}
 use lib.IntN.{ℤ, pos, negsuc, natAbs, _+ℤ_, _-ℤ_, _*ℤ_}
-use Rattle.algebra.proofs.Difference.{split, ℤ⊖}
 use Rattle.algebra.proofs.IntLaws.{abs-*}
 use Rattle.algebra.proofs.Machine.{plain, lit, v+, v-, v*}
 use Rattle.algebra.proofs.Ring.{quote, by-ring}
 use Rattle.tides.specs.Direction.{E}
 use Rattle.tides.specs.Tide.{love, shida, upShare, sideShare}
 use Rattle.tides.specs.Steps.{shareOf}
-use Rattle.tides.proofs.DirectionLaws.{near-size}
 use Rattle.numbers.specs.Near.{near}
-use Rattle.numbers.proofs.NearLaws.{near-half, near-shift}
+use Rattle.numbers.proofs.NearLaws.{near-rest, near-size, near-shift}
 
 -- ---- in 64 bits: the whole part of a K is taken out, in twos
 
 -- what is left of w, after the nearest multiple of 20,000
 pub rest-small : (w : ℤ) → natAbs (w -ℤ pos 20000 *ℤ near w 20000) ≤ 10000
-rest-small w = turned w (near w 20000) (near-half w 20000 (lit< tt) .off)
-  where
-    turned : (w t : ℤ) → 2 * natAbs (pos 20000 *ℤ t -ℤ w) ≤ 20000 → natAbs (w -ℤ pos 20000 *ℤ t) ≤ 10000
-    turned w t = rw (split w, split t) (simp ℤ⊖ (omega arith))
+rest-small w = omega (arith, near-rest w 20000 (lit< tt))
 
 -- whatever t is
 pub in-twos : (a b P k t : ℤ) → pos 2 *ℤ t +ℤ near ((a *ℤ k -ℤ pos 20000 *ℤ t) *ℤ pos E +ℤ b *ℤ P *ℤ k) (10000 * E) ≡ shareOf a b P k

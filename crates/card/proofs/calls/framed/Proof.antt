@@ -10,7 +10,7 @@ use Rattle.mark.specs.Mark.{plus, scaled}
 use Rattle.mark.specs.Ranges.{Within}
 use Rattle.mark.proofs.SizeLaws.{sized-as, scaled-within}
 use Rattle.frames.specs.Frame.{frameA, frameB, frameAt}
-use Rattle.frames.proofs.RowLaws.{frame-a-within, frame-b-within}
+use Rattle.frames.proofs.RowLaws.{mostB, frame-a-within, frame-b-within}
 use Rattle.frames.proofs.FrameLaws.{terms-a, terms-b}
 use Rattle.card.specs.declared.calls.AtEpoch.{AtEpoch}
 use Rattle.card.proofs.CheckLaws.{Small, valid-passed, valid-small}
@@ -20,7 +20,7 @@ use Rattle.card.proofs.calls.framed.Tie as tie
 small : (c : tie.Start) → Small (c .args .c)
 small c = valid-small (c .args .c) (c .pre .0)
 
-rate-small : (c : tie.Start) → Within 2000000 (frameB (c .args .frame) (c .args .c .mark))
+rate-small : (c : tie.Start) → Within mostB (frameB (c .args .frame) (c .args .c .mark))
 rate-small c = frame-b-within (c .args .frame) (c .args .c .mark) (small c .mark)
 
 epoch-is : (c : tie.Start) → rd (c .args .c .epoch) ≡ c .args .c .epoch

@@ -109,5 +109,5 @@ returns-4 c =
 pub reframed-spec : {M : Type 1} → statement M
 reframed-spec =
     tie.close
-    (tie.spec returns framed-requires (λ c κs. (c .before .before .pre, known (c .before))) minus-requires plus-requires (λ c κs. search needs) returns-2 minus-requires-2
+    (tie.spec (λ c. search needs) returns (λ c. search needs) framed-requires (λ c κs. (c .before .before .pre, known (c .before))) minus-requires plus-requires (λ c κs. search needs) returns-2 minus-requires-2
     plus-requires-2 (λ c κs. within-sized (small (c .before .before .before .before .before .before .before .before .before) .mark)) returns-3 returns-4)
