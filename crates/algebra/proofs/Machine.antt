@@ -52,7 +52,7 @@ of_u {m} h k = record { told = to_z_pos w64 (lt_of_le_of_lt h k); small = h }
 
 -- what a call answered, read back; its `.ok` is the second argument
 pub answered : (r : ℤ) → mag r < 2 ^ 63 → to_z w64 (of_z w64 r) ≡ r
-answered r h = to_z-of_z (record { sfits = h })
+answered r h = to_z-of_z {w = w64} (record { sfits = h })
 
 -- ---- how it goes on
 

@@ -1,4 +1,6 @@
 // The station card: its checks 2 to 9 and the six calls. Every function takes any card and refuses by number.
+#![tactic(auto)]
+
 ghost use Rattle.std.specs.Prelude.{◌≡◌};
 ghost use Rattle.refusal.specs.Refusal as R;
 ghost use Rattle.card.specs.Checks as K;

@@ -1,5 +1,7 @@
 // A catalogue: records of a card's length one after another. Lookup by site, a whole catalogue's check, the reader's step.
 // Every function takes any bytes.
+#![tactic(auto)]
+
 ghost use Rattle.std.specs.Prelude.{◌≡◌, ◌+◌, ◌≤◌, length};
 ghost use Rattle.catalogue.specs.Lookup as L;
 ghost use Rattle.catalogue.specs.Reader as R;

@@ -1,4 +1,6 @@
 // The card's bytes: read and written, and what a call on bytes starts from and ends with. Every function takes any bytes and any buffer.
+#![tactic(auto)]
+
 ghost use Rattle.std.specs.Prelude.{◌≡◌, length};
 ghost use Rattle.codec.specs.Codec as C;
 ghost use Rattle.codec.specs.Opened as O;

@@ -1,4 +1,6 @@
 // The field edition, 48 bytes: export and expand; and metres out. Every function takes any card and any bytes.
+#![tactic(auto)]
+
 ghost use Rattle.std.specs.Prelude.{◌≡◌, length};
 ghost use Rattle.field.specs.Field as F;
 ghost use Rattle.field.specs.MetresOut as M;

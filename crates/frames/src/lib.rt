@@ -1,4 +1,6 @@
 // The frames of Table 4.1: A and B of each, worked out from the mark. Any mark and any frame code may be asked for.
+#![tactic(auto)]
+
 ghost use Rattle.std.specs.Prelude.{◌≡◌};
 ghost use Rattle.frames.specs.Frame as F;
 

@@ -1,4 +1,6 @@
 // What a card and a field record begin with: site, frame, byte 10, epoch, mark. Their shared checks 2 to 6.
+#![tactic(auto)]
+
 ghost use Rattle.std.specs.Prelude.{◌≡◌};
 ghost use Rattle.refusal.specs.Refusal as R;
 ghost use Rattle.head.specs.Head as K;

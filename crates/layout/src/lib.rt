@@ -1,5 +1,7 @@
 // The layout that the card's record and the field record share: bytes 0 to 11, and three numbers of one width. What lies past the end reads as 0
 // and is not written; a width above 8 bytes counts as 8.
+#![tactic(auto)]
+
 ghost use Rattle.std.specs.Prelude.{◌≡◌, min};
 ghost use Rattle.layout.specs.Layout as Y;
 

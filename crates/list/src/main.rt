@@ -1,4 +1,6 @@
 // Lists the cards of standard input, a line each; a short last part is refused.
+#![tactic(auto)]
+
 ghost use Rattle.std.specs.Prelude.{◌≡◌, ◌+◌, ◌≤◌, min, length};
 ghost use Rattle.octets.specs.Octets as O;
 ghost use Rattle.codec.specs.Codec as C;

@@ -1,4 +1,6 @@
 // A line of the listing: a part's card as text, or its refusal. Every function takes any bytes and any buffer.
+#![tactic(auto)]
+
 ghost use Rattle.std.specs.Prelude.{◌≡◌, length};
 ghost use Rattle.octets.specs.Octets as O;
 ghost use Rattle.listing.specs.Line as T;

@@ -1,4 +1,6 @@
 // The mark, and three numbers in a row: their sizes, the whole length in a range, the mark's check. Every function takes any numbers.
+#![tactic(auto)]
+
 ghost use Rattle.std.specs.Prelude.{◌≡◌};
 ghost use Rattle.mark.specs.Mark as M;
 

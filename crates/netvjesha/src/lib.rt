@@ -1,5 +1,7 @@
 // The C face: cards as bytes, refusals as numbers. An output's length comes first (1), then the record's own checks (1 to 9), then the
 // call's. A refused call writes nothing. include/netvjesha.h declares these functions.
+#![tactic(auto)]
+
 ghost use Rattle.std.specs.Prelude.{◌≡◌, ◌<◌, length};
 ghost use Rattle.mark.specs.Mark as M;
 ghost use Rattle.series.specs.Series as S;

@@ -1,5 +1,7 @@
 // Numbers in byte slices, big-endian, signed ones in two's complement. Each function takes any slice, any place and any
 // width: what lies past the end reads as 0 and is not written, and a width above 8 bytes counts as 8.
+#![tactic(auto)]
+
 ghost use Rattle.std.specs.Prelude.{◌≡◌, ◌+◌, ◌-◌, ◌^◌, ◌≤◌, min, get_or, length, set};
 ghost use Rattle.octets.specs.Octets as O;
 

@@ -1,5 +1,7 @@
 // A call from a card's record to a lent buffer: 1 where the buffer has not exactly CARD_LENGTH bytes (of codec), then the record's own checks, 1 to 9,
 // then the call's. The card is checked once. Refused, no byte is written.
+#![tactic(auto)]
+
 ghost use Rattle.std.specs.Prelude.{◌≡◌, length};
 ghost use Rattle.card.specs.Calls as L;
 ghost use Rattle.records.specs.Bytes as B;

@@ -1,4 +1,6 @@
 // Runs the library on the second program's vectors of records and calls, kinds 8 to 13 (docs/VECTORS.md), a line each.
+#![tactic(auto)]
+
 use libc::STDOUT_FILENO;
 
 mod calls;

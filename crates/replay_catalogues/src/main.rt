@@ -1,4 +1,6 @@
 // Runs the library on the second program's vectors of catalogues, kinds 14 to 17 (docs/VECTORS.md), a line each.
+#![tactic(auto)]
+
 use libc::STDOUT_FILENO;
 
 mod catalogues;

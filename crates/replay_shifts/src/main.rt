@@ -1,4 +1,6 @@
 // Runs the library on the second program's vectors of numbers, frames and tides, kinds 1 to 7 (docs/VECTORS.md), a line each.
+#![tactic(auto)]
+
 use libc::STDOUT_FILENO;
 
 mod rounding;

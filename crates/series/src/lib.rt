@@ -1,4 +1,6 @@
 // The tide series: the solid tides of many rows of bodies at a mark, in grains. It takes any mark and any slices, and refuses by number.
+#![tactic(auto)]
+
 ghost use Rattle.std.specs.Prelude.{◌≡◌, length};
 ghost use Rattle.series.specs.Series as S;
 

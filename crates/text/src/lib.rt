@@ -1,5 +1,7 @@
 // Numbers and bytes as text, at a place in a lent buffer. Every function takes any buffer and any place, and answers the place after its text.
 // What lies past the buffer's end is not written, and a place stops at the greatest that 64 bits can name.
+#![tactic(auto)]
+
 ghost use Rattle.std.specs.Prelude.{◌≡◌, length};
 ghost use Rattle.octets.specs.Octets as O;
 ghost use Rattle.text.specs.Text as T;

@@ -1,6 +1,8 @@
 // The tides, worked out from the mark, in grains (1,461 grains are a micrometre): the permanent shift, the solid tide, and what a series of it needs: the
 // mark's direction once, the bodies' refusal and the tide at that direction for each row. Every function takes any numbers and any bodies, and refuses by
 // number.
+#![tactic(auto)]
+
 ghost use Rattle.std.specs.Prelude.{◌≡◌};
 ghost use Rattle.tides.specs.Permanent as P;
 ghost use Rattle.tides.specs.Tide as T;

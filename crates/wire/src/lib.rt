@@ -1,5 +1,7 @@
 // What a vector's payload holds, and what an answering line is made of (docs/VECTORS.md). The programs that answer vectors share it.
 // A part of a line is put at a place in a lent buffer, as those of `text` are, and the place after it is answered.
+#![tactic(auto)]
+
 ghost use Rattle.std.specs.Prelude.{◌≡◌, ◌≤◌, min, drop, get_or, length, take};
 ghost use Rattle.octets.specs.Octets as O;
 ghost use Rattle.text.specs.Text as T;
