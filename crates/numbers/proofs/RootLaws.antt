@@ -20,16 +20,16 @@ refined n r h = go (leb ((2 * r + 1) * (2 * r + 1)) n) (leb→le ((2 * r + 1) * 
         record { below = omega arith; above = omega arith }
 
 -- enough steps
-root_in : (k n : ℕ) → n ≤ k → IsRoot n (root_in k n)
+root_in_lem : (k n : ℕ) → n ≤ k → IsRoot n (root_in k n)
 unfolding root_in
-root_in zero zero h = record { below = omega arith; above = omega arith }
-root_in zero (suc n) h = absurd (omega arith)
-root_in (suc k) zero h = record { below = omega arith; above = omega arith }
-root_in (suc k) (suc n) h = refined (suc n) (root_in k (suc n / 4)) (root_in k (suc n / 4) (omega arith))
+root_in_lem zero zero h = record { below = omega arith; above = omega arith }
+root_in_lem zero (suc n) h = absurd (omega arith)
+root_in_lem (suc k) zero h = record { below = omega arith; above = omega arith }
+root_in_lem (suc k) (suc n) h = refined (suc n) (root_in k (suc n / 4)) (root_in_lem k (suc n / 4) (omega arith))
 
 pub root_is : (n : ℕ) → IsRoot n (root n)
 unfolding root
-root_is n = root_in n n (le_refl n)
+root_is n = root_in_lem n n (le_refl n)
 
 at_most : (n r s : ℕ) → IsRoot n r → IsRoot n s → r ≤ s
 at_most n r s h k =

@@ -163,7 +163,7 @@ line-short c =
     omega (arith, c.before.before.line.ensures.0, line-most (take (c.before.before.before.before.before.part-end.result - l.at) (drop l.at a.parts.now)))
 
 add-filled : tie.Need-overflow-add-filled invariant-loop decreases-loop
-add-filled c = omega (arith, line-short c, (ready c.before.before.before.before.before.before).free, c.before.before.before.before.before.before.before.loop.invariant.kept, c.before.before.before.before.before.before.before.before.before.before.well-formed)
+add-filled c = omega (arith, line-short c, (ready c.before.before.before.before.before.before).free, c.before.before.before.before.before.before.before.loop.invariant.kept, c.before.before.before.before.before.before.before.before.before.before.well_formed)
 
 loop-less : tie.Need-loop-smaller invariant-loop decreases-loop
 loop-less c = omega (arith, c.before.before.before.before.before.part-end.ensures, c.before.before.before.before.before.before.loop-test.true)

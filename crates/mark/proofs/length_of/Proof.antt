@@ -9,7 +9,7 @@ use Rattle.mark.proofs.length_of.Tie as tie
 
 returns : tie.Need-returns
 returns c =
-    c.root.ensures ∙ ap root c.before.sum-within.ensures ∙ root-within 6300000 6400000 c.before.before.args.m
+    c.root.ensures ∙ ap root c.before.sum_within.ensures ∙ root-within 6300000 6400000 c.before.before.args.m
 
-pub length-of-spec : {M : Type 1} → statement M
-length-of-spec = tie.close (tie.spec (λ c κs. (lit< tt, lit< tt)) (λ c κs. search rules) returns)
+pub length_of_spec : {M : Type 1} → statement M
+length_of_spec = tie.close (tie.spec (λ c κs. (lit< tt, lit< tt)) (λ c κs. search rules) returns)

@@ -5,20 +5,20 @@ use Rattle.mark.proofs.LengthLaws.{no-range, asked, not-asked}
 use Rattle.mark.proofs.squares_within.Statement.{statement}
 use Rattle.mark.proofs.squares_within.Tie as tie
 
-returns : tie.Need-returns
+returns : tie.Need-returns-then-high-gt1073741823
 returns c =
     let a = c.before.args in
-    sym (not-asked a.low a.high a.v c.if1.true)
+    sym (not-asked a.low a.high a.v c.if-high-gt1073741823.true)
 
-returns-2 : tie.Need-returns-2
+returns-2 : tie.Need-returns-then-high-low
 returns-2 c =
     let a = c.before.before.args in
-    sym (asked a.low a.high a.v (omega (arith, c.before.if1.false)) ∙ no-range a.low a.high a.v c.if2.true)
+    sym (asked a.low a.high a.v (omega (arith, c.before.if-high-gt1073741823.false)) ∙ no-range a.low a.high a.v c.if-high-low.true)
 
-returns-3 : tie.Need-returns-3
+returns-3 : tie.Need-returns
 returns-3 c =
     let a = c.before.before.before.args in
-    c.sum-within.ensures ∙ sym (asked a.low a.high a.v (omega (arith, c.before.before.if1.false)))
+    c.sum_within.ensures ∙ sym (asked a.low a.high a.v (omega (arith, c.before.before.if-high-gt1073741823.false)))
 
-pub squares-within-spec : {M : Type 1} → statement M
-squares-within-spec = tie.close (tie.spec returns returns-2 (λ c κs. (omega arith, omega arith)) returns-3)
+pub squares_within_spec : {M : Type 1} → statement M
+squares_within_spec = tie.close (tie.spec returns returns-2 (λ c κs. (omega arith, omega arith)) returns-3)

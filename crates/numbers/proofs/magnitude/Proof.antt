@@ -9,20 +9,20 @@ use Rattle.algebra.proofs.Turned.{above, turned, size, itself}
 use Rattle.numbers.proofs.magnitude.Statement.{statement}
 use Rattle.numbers.proofs.magnitude.Tie as tie
 
-known : (c : tie.Then1) → Negative c.before.args.z
-known c = negative c.before.args.z c.before.ranges.z c.if1.true
+known : (c : tie.Then-z-lt0) → Negative c.before.args.z
+known c = negative c.before.args.z c.before.ranges.z c.if-z-lt0.true
 
-returns : tie.Need-returns
+returns : tie.Need-returns-then-z-lt0
 returns c =
     ap (λ (k : ℕ). k + 1) (told_U (size c.before.args.z c.before.ranges.z (known c)))
     ∙ add-one (known c).k
     ∙ sym (ap nat_abs (known c).is)
 
-here : (c : tie.Else1) → Positive c.before.args.z
-here c = positive c.before.args.z c.before.ranges.z c.if1.false
+here : (c : tie.Else-z-lt0) → Positive c.before.args.z
+here c = positive c.before.args.z c.before.ranges.z c.if-z-lt0.false
 
-pub magnitude-spec : {M : Type 1} → statement M
-magnitude-spec =
+pub magnitude_spec : {M : Type 1} → statement M
+magnitude_spec =
     tie.close
     (tie.spec (λ c. fit (above c.before.args.z c.before.ranges.z (known c)) (known c).small)
     (λ c. fit (turned c.before.args.z c.before.ranges.z (known c)) (known c).small)

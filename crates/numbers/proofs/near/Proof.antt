@@ -16,25 +16,25 @@ use Rattle.numbers.proofs.near.Statement.{statement}
 use Rattle.numbers.proofs.near.Tie as tie
 
 -- what came back is the rounded magnitude
-came : (c : tie.After-nearest) → c.nearest.result ≡ nearest (nat_abs c.before.before.args.a) c.before.before.args.b
-came c = c.nearest.ensures ∙ ap (λ (n : ℕ). nearest n c.before.before.args.b) (c.before.magnitude.ensures ∙ ap nat_abs (to_z-of_z c.before.before.ranges.a))
+came : (c : tie.After-nearest-n) → c.nearest-n.result ≡ nearest (nat_abs c.before.before.args.a) c.before.before.args.b
+came c = c.nearest-n.ensures ∙ ap (λ (n : ℕ). nearest n c.before.before.args.b) (c.before.magnitude.ensures ∙ ap nat_abs (to_z-of_z c.before.before.ranges.a))
 
-room : (c : tie.After-nearest) → c.nearest.result ≤ nat_abs c.before.before.args.a
+room : (c : tie.After-nearest-n) → c.nearest-n.result ≤ nat_abs c.before.before.args.a
 room c = omega (arith, came c, nearest-no-larger (nat_abs c.before.before.args.a) c.before.before.args.b)
 
 -- ---- a negative a
 
-known : (c : tie.Then1) → Negative c.before.before.before.args.a
-known c = negative c.before.before.before.args.a c.before.before.before.ranges.a c.if1.true
+known : (c : tie.Then-a-lt0) → Negative c.before.before.before.args.a
+known c = negative c.before.before.before.args.a c.before.before.before.ranges.a c.if-a-lt0.true
 
 negated : (a : ℤ) (b r : ℕ) → Negative a → r ≡ nearest (nat_abs a) b → neg_ℤ (pos r) ≡ near a b
 unfolding near
 negated a b r n h = ap (λ (k : ℕ). neg_ℤ (pos k)) (h ∙ ap (λ (z : ℤ). nearest (nat_abs z) b) n.is) ∙ sym (ap (λ (z : ℤ). near z b) n.is)
 
-returns : tie.Need-returns
+returns : tie.Need-returns-then-n-eq0
 returns c =
-    ap (λ (k : ℕ). neg_ℤ (pos k)) (sym c.if2.true)
-    ∙ negated c.before.before.before.before.args.a c.before.before.before.before.args.b c.before.before.nearest.result (known c.before) (came c.before.before)
+    ap (λ (k : ℕ). neg_ℤ (pos k)) (sym c.if-n-eq0.true)
+    ∙ negated c.before.before.before.before.args.a c.before.before.before.before.args.b c.before.before.nearest-n.result (known c.before) (came c.before.before)
 
 -- the way out, for a rounded magnitude r from 1 to 2^63
 less_one : (r : ℕ) → 0 < r → neg_ℤ (pos (r - 1)) -ℤ pos 1 ≡ neg_ℤ (pos r)
@@ -57,39 +57,39 @@ module _ (r : ℕ) (h : 0 < r) (l : r ≤ 2 ^ 63) where
   answered : to_z w64 (of_z w64 (to_z w64 (of_z w64 (pos 0 -ℤ to_z w64 (r - 1))) -ℤ pos 1)) ≡ neg_ℤ (pos r)
   answered = to_z-of_z fits-down ∙ down
 
-above_zero : (c : tie.Else2) → 0 < c.before.before.nearest.result
-above_zero c = pos_of_ne-zero c.if2.false
+above_zero : (c : tie.Else-n-eq0) → 0 < c.before.before.nearest-n.result
+above_zero c = pos_of_ne-zero c.if-n-eq0.false
 
-at_most : (c : tie.Else2) → c.before.before.nearest.result ≤ 2 ^ 63
+at_most : (c : tie.Else-n-eq0) → c.before.before.nearest-n.result ≤ 2 ^ 63
 at_most c = omega (arith, room c.before.before, ap nat_abs (known c.before).is, (known c.before).small)
 
-returns-2 : tie.Need-returns-2
+returns-2 : tie.Need-returns-then-a-lt0
 returns-2 c =
-    answered c.before.before.nearest.result (above_zero c) (at_most c)
-    ∙ negated c.before.before.before.before.args.a c.before.before.before.before.args.b c.before.before.nearest.result (known c.before) (came c.before.before)
+    answered c.before.before.nearest-n.result (above_zero c) (at_most c)
+    ∙ negated c.before.before.before.before.args.a c.before.before.before.before.args.b c.before.before.nearest-n.result (known c.before) (came c.before.before)
 
 -- ---- any other a
 
-here : (c : tie.Else1) → Positive c.before.before.before.args.a
-here c = positive c.before.before.before.args.a c.before.before.before.ranges.a c.if1.false
+here : (c : tie.Else-a-lt0) → Positive c.before.before.before.args.a
+here c = positive c.before.before.before.args.a c.before.before.before.ranges.a c.if-a-lt0.false
 
-below : (c : tie.Else1) → c.before.nearest.result < 2 ^ 63
+below : (c : tie.Else-a-lt0) → c.before.nearest-n.result < 2 ^ 63
 below c = omega (arith, room c.before, ap nat_abs (here c).is, (here c).small)
 
 kept : (a : ℤ) (b r : ℕ) → Positive a → r ≡ nearest (nat_abs a) b → pos r ≡ near a b
 unfolding near
 kept a b r n h = ap pos (h ∙ ap (λ (z : ℤ). nearest (nat_abs z) b) n.is) ∙ sym (ap (λ (z : ℤ). near z b) n.is)
 
-returns-3 : tie.Need-returns-3
+returns-3 : tie.Need-returns
 returns-3 c =
     to_z_pos w64 (below c)
-    ∙ kept c.before.before.before.args.a c.before.before.before.args.b c.before.nearest.result (here c) (came c.before)
+    ∙ kept c.before.before.before.args.a c.before.before.before.args.b c.before.nearest-n.result (here c) (came c.before)
 
-pub near-spec : {M : Type 1} → statement M
-near-spec =
+pub near_spec : {M : Type 1} → statement M
+near_spec =
     tie.close
     (tie.spec (λ c κs. search rules) (λ c κs. search rules) returns (λ c. search rules)
-    (λ c. sfits-abs (le_refl (c.before.before.nearest.result - 1)) (omega (arith, above_zero c, at_most c)))
-    (λ c. fit (back c.before.before.nearest.result (above_zero c) (at_most c)) (omega (arith, above_zero c, at_most c)))
-    (λ c. fits-down c.before.before.nearest.result (above_zero c) (at_most c)) returns-2
-    (λ c. sfits-abs (le_refl c.before.nearest.result) (below c)) returns-3)
+    (λ c. sfits-abs (le_refl (c.before.before.nearest-n.result - 1)) (omega (arith, above_zero c, at_most c)))
+    (λ c. fit (back c.before.before.nearest-n.result (above_zero c) (at_most c)) (omega (arith, above_zero c, at_most c)))
+    (λ c. fits-down c.before.before.nearest-n.result (above_zero c) (at_most c)) returns-2
+    (λ c. sfits-abs (le_refl c.before.nearest-n.result) (below c)) returns-3)

@@ -28,17 +28,17 @@ no_nan (fin s m d) e = tt
 meant : (r : Rounded) (x : Float) → r ≡ shown (whole_of x) → Means r (whole_of x)
 meant r x e = subst (λ (q : Rounded). Means q (whole_of x)) (sym e) (shown-means (whole_of x))
 
-returns-2 : tie.Need-returns-2
+returns-2 : tie.Need-returns
 returns-2 c =
-    meant c.whole-of-bits.result c.before.before.args.x
-    (c.whole-of-bits.ensures
-    ∙ ap (λ (x : Float). shown (whole_of x)) (of_bits-to_bits binary64 c.before.before.args.x (subst T (sym c.before.before.well-formed.0.1) tt)))
+    meant c.whole_of_bits.result c.before.before.args.x
+    (c.whole_of_bits.ensures
+    ∙ ap (λ (x : Float). shown (whole_of x)) (of_bits-to_bits binary64 c.before.before.args.x (subst T (sym c.before.before.well_formed.0.1) tt)))
 
-pub whole-spec : {M : Type 1} → statement M
-whole-spec =
+pub whole_spec : {M : Type 1} → statement M
+whole_spec =
     tie.close
     (tie.spec
     (λ c.
     meant NotFinite c.before.args.x
-    (of_nan ∙ ap (λ (x : Float). shown (whole_of x)) (sym (differs_from_itself c.before.args.x (subst T (sym c.if1.true) tt)))))
-    (λ c. no_nan c.before.args.x c.if1.false) (λ c κs. search rules) returns-2)
+    (of_nan ∙ ap (λ (x : Float). shown (whole_of x)) (sym (differs_from_itself c.before.args.x (subst T (sym c.if-x.true) tt)))))
+    (λ c. no_nan c.before.args.x c.if-x.false) (λ c κs. search rules) returns-2)

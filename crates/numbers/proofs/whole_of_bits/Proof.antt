@@ -53,39 +53,39 @@ middle b r l h e =
     ∙ ap (λ (k : ℕ). some (signed (leb (2 ^ 63) b) k)) (sym (e ∙ ap (λ (d : ℕ). nearest (b % 4503599627370496 + 4503599627370496) d) (one_shl (1075 - x) (omega arith))))
 
 -- where the digits are rounded
-mid : (c : tie.After-nearest) → whole_of (of_bits binary64 c.before.before.before.before.args.b) ≡ some (signed (leb (2 ^ 63) c.before.before.before.before.args.b) c.nearest.result)
-mid c = middle c.before.before.before.before.args.b c.nearest.result c.before.if3.false c.before.before.if2.false c.nearest.ensures
+mid : (c : tie.After-nearest-n) → whole_of (of_bits binary64 c.before.before.before.before.args.b) ≡ some (signed (leb (2 ^ 63) c.before.before.before.before.args.b) c.nearest-n.result)
+mid c = middle c.before.before.before.before.args.b c.nearest-n.result c.before.if-exponent-lt1022.false c.before.before.if-exponent-gt1053.false c.nearest-n.ensures
 
-returns-4 : tie.Need-returns-4
-returns-4 c = sym (ap shown (mid c.before) ∙ shown-far (leb (2 ^ 63) c.before.before.before.before.before.args.b) c.before.nearest.result c.if4.true)
+returns-4 : tie.Need-returns-then-n-gt1073741824
+returns-4 c = sym (ap shown (mid c.before) ∙ shown-far (leb (2 ^ 63) c.before.before.before.before.before.args.b) c.before.nearest-n.result c.if-n-gt1073741824.true)
 
 -- at most 2^30, as an i64
 value : (r : ℕ) → r ≤ 1073741824 → Va (to_z w64 r) (pos r) 1073741824
 value r h = of_u h (lit< tt)
 
-returns-5 : tie.Need-returns-5
+returns-5 : tie.Need-returns-then-b-lt9223372036854775808
 returns-5 c =
-    let r = c.before.before.nearest.result in
+    let r = c.before.before.nearest-n.result in
     let b = c.before.before.before.before.before.before.args.b in
-    ap Number (value r c.before.if4.false).told
+    ap Number (value r c.before.if-n-gt1073741824.false).told
     ∙ sym (ap shown (mid c.before.before)
-    ∙ shown-number (leb (2 ^ 63) b) r c.before.if4.false
-    ∙ ap (λ (s : Bool). Number (signed s r)) (lt-leb (2 ^ 63) b c.if5.true))
+    ∙ shown-number (leb (2 ^ 63) b) r c.before.if-n-gt1073741824.false
+    ∙ ap (λ (s : Bool). Number (signed s r)) (lt-leb (2 ^ 63) b c.if-b-lt9223372036854775808.true))
 
-returns-6 : tie.Need-returns-6
+returns-6 : tie.Need-returns-else-b-lt9223372036854775808
 returns-6 c =
-    let r = c.before.before.nearest.result in
+    let r = c.before.before.nearest-n.result in
     let b = c.before.before.before.before.before.before.args.b in
-    ap Number (at (vneg (value r c.before.if4.false)) (lit< tt)).told
+    ap Number (at (vneg (value r c.before.if-n-gt1073741824.false)) (lit< tt)).told
     ∙ sym (ap shown (mid c.before.before)
-    ∙ shown-number (leb (2 ^ 63) b) r c.before.if4.false
-    ∙ ap (λ (s : Bool). Number (signed s r)) (le-leb (2 ^ 63) b c.if5.false))
+    ∙ shown-number (leb (2 ^ 63) b) r c.before.if-n-gt1073741824.false
+    ∙ ap (λ (s : Bool). Number (signed s r)) (le-leb (2 ^ 63) b c.if-b-lt9223372036854775808.false))
 
-pub whole-of-bits-spec : {M : Type 1} → statement M
-whole-of-bits-spec =
+pub whole_of_bits_spec : {M : Type 1} → statement M
+whole_of_bits_spec =
     tie.close
-    (tie.spec (λ c. none_at_top c.before.args.b c.if1.true)
-    (λ c. far-there c.before.before.args.b c.if2.true (below_top c.before.before.args.b c.before.if1.false))
-    (λ c. zero-there c.before.before.before.args.b c.if3.true) (λ c. search rules) (λ c. search rules) (λ c. search rules)
+    (tie.spec (λ c. none_at_top c.before.args.b c.if-exponent-eq2047.true)
+    (λ c. far-there c.before.before.args.b c.if-exponent-gt1053.true (below_top c.before.before.args.b c.before.if-exponent-eq2047.false))
+    (λ c. zero-there c.before.before.before.args.b c.if-exponent-lt1022.true) (λ c. search rules) (λ c. search rules) (λ c. search rules)
     (λ c κs. search rules) returns-4 (λ c. search rules) (λ c. search rules)
-    (λ c. fit (vneg (value c.before.before.nearest.result c.before.if4.false)) (lit< tt)) returns-5 returns-6)
+    (λ c. fit (vneg (value c.before.before.nearest-n.result c.before.if-n-gt1073741824.false)) (lit< tt)) returns-5 returns-6)

@@ -7,16 +7,16 @@ use lib.ListN.{get_or-eq_default}
 use Rattle.octets.proofs.byte_at.Statement.{statement}
 use Rattle.octets.proofs.byte_at.Tie as tie
 
-returns : tie.Need-returns
+returns : tie.Need-returns-then-s-at
 returns c =
     let a = c.before.args in
     sym (get_or-eq_default a.s.now 0 {n = a.at + a.i} (omega arith))
 
-returns-2 : tie.Need-returns-2
+returns-2 : tie.Need-returns-then-s-at-2
 returns-2 c =
     let a = c.before.before.args in
     sym (get_or-eq_default a.s.now 0 {n = a.at + a.i} (omega arith))
 
-pub byte-at-spec : {M : Type 1} → statement M
-byte-at-spec =
+pub byte_at_spec : {M : Type 1} → statement M
+byte_at_spec =
     tie.close (tie.spec returns (λ c. search rules) returns-2 (λ c. search rules) (λ c. search rules) (λ c. search rules))

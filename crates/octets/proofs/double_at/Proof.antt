@@ -28,12 +28,12 @@ off-nan b h =
     subst (λ (t : Bool). T (not t)) (sym (nan_bits_above binary64 b ∙ le-ltb 9218868437227405312 (b % 9223372036854775808) h)) tt
 
 -- the double of what was read
-told : (c : tie.After-unsigned-at) → of_bits binary64 c.unsigned-at.result ≡ double_at c.before.before.args.s.now c.before.before.args.at
+told : (c : tie.After-unsigned_at-bits) → of_bits binary64 c.unsigned_at-bits.result ≡ double_at c.before.before.args.s.now c.before.before.args.at
 unfolding double_at
-told c = ap (of_bits binary64) c.unsigned-at.ensures
+told c = ap (of_bits binary64) c.unsigned_at-bits.ensures
 
-pub double-at-spec : {M : Type 1} → statement M
-double-at-spec =
+pub double_at_spec : {M : Type 1} → statement M
+double_at_spec =
     tie.close
-    (tie.spec (λ c κs. search rules) (λ c. at-nan c.before.unsigned-at.result c.if1.true ∙ told c.before)
-    (λ c. off-nan c.before.unsigned-at.result c.if1.false) (λ c. told c.before))
+    (tie.spec (λ c κs. search rules) (λ c. at-nan c.before.unsigned_at-bits.result c.if-bits-gt9218868437227405312.true ∙ told c.before)
+    (λ c. off-nan c.before.unsigned_at-bits.result c.if-bits-gt9218868437227405312.false) (λ c. told c.before))

@@ -10,31 +10,31 @@ use Rattle.octets.specs.Octets.{residue}
 use Rattle.octets.proofs.pattern.Statement.{statement}
 use Rattle.octets.proofs.pattern.Tie as tie
 
-known : (c : tie.Then1) → Negative c.before.args.z
-known c = negative c.before.args.z c.before.ranges.z c.if1.true
+known : (c : tie.Then-z-lt0) → Negative c.before.args.z
+known c = negative c.before.args.z c.before.ranges.z c.if-z-lt0.true
 
 below : (k : ℕ) → k < 2 ^ 63 → 18446744073709551615 - k ≡ residue 8 (negsuc k)
 unfolding residue
 below k h = rw (mod-eq_of_lt {n = k} {m = 256 ^ 8} (omega arith)) (omega arith)
 
-returns : tie.Need-returns
+returns : tie.Need-returns-then-z-lt0
 returns c =
     ap (λ (k : ℕ). 18446744073709551615 - k) (told_U (size c.before.args.z c.before.ranges.z (known c)))
     ∙ below (known c).k (known c).small
     ∙ sym (ap (residue 8) (known c).is)
 
-here : (c : tie.Else1) → Positive c.before.args.z
-here c = positive c.before.args.z c.before.ranges.z c.if1.false
+here : (c : tie.Else-z-lt0) → Positive c.before.args.z
+here c = positive c.before.args.z c.before.ranges.z c.if-z-lt0.false
 
 whole : (k : ℕ) → k < 2 ^ 63 → k ≡ residue 8 (pos k)
 unfolding residue
 whole k h = sym (mod-eq_of_lt {n = k} {m = 256 ^ 8} (omega arith))
 
-returns-2 : tie.Need-returns-2
+returns-2 : tie.Need-returns
 returns-2 c = told_U (itself c.before.args.z c.before.ranges.z (here c)) ∙ whole (here c).k (here c).small ∙ sym (ap (residue 8) (here c).is)
 
-pub pattern-spec : {M : Type 1} → statement M
-pattern-spec =
+pub pattern_spec : {M : Type 1} → statement M
+pattern_spec =
     tie.close
     (tie.spec (λ c. fit (above c.before.args.z c.before.ranges.z (known c)) (known c).small)
     (λ c. fit (turned c.before.args.z c.before.ranges.z (known c)) (known c).small)

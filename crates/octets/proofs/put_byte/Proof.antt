@@ -7,16 +7,16 @@ use lib.Seq.{set_out}
 use Rattle.octets.proofs.put_byte.Statement.{statement}
 use Rattle.octets.proofs.put_byte.Tie as tie
 
-returns : tie.Need-returns
+returns : tie.Need-returns-then-out-at
 returns c =
     let a = c.before.args in
     sym (set_out a.out.now (a.at + a.i) a.b (omega arith))
 
-returns-2 : tie.Need-returns-2
+returns-2 : tie.Need-returns-then-out-at-2
 returns-2 c =
     let a = c.before.before.args in
     sym (set_out a.out.now (a.at + a.i) a.b (omega arith))
 
-pub put-byte-spec : {M : Type 1} → statement M
-put-byte-spec =
+pub put_byte_spec : {M : Type 1} → statement M
+put_byte_spec =
     tie.close (tie.spec returns (λ c. search rules) returns-2 (λ c. search rules) (λ c. search rules) (λ c. search rules) (λ c. search rules))

@@ -25,36 +25,36 @@ done : (out from all : List ℕ) (at i : ℕ) → length from ≤ i → splice o
 unfolding splice
 done out from all at i h g = ap (splice out (at + i)) (sym (drop_of_length-le from h)) ∙ g
 
-abbrev invariant-loop : tie.invariant-loop
+abbrev invariant-loop : tie.invariant-loop-i
 invariant-loop out₀ at from i₀ out i =
     (i ≤ length from) × (length out ≡ length out₀) × (splice out (at + i) (drop i from) ≡ splice out₀ at from)
 
-abbrev decreases-loop : tie.decreases-loop
+abbrev decreases-loop : tie.decreases-loop-i
 decreases-loop out₀ at from i₀ out i = length from - i
 
-loop-holds : tie.Need-loop-init invariant-loop decreases-loop
+loop-holds : tie.Need-loop-i-init invariant-loop decreases-loop
 loop-holds c =
     let a = c.before.before.args in
     (search rules, refl, ap (λ (k : ℕ). splice a.out.now k a.from.now) (add-zero a.at))
 
-loop-again : tie.Need-loop-preserved invariant-loop decreases-loop
+loop-again : tie.Need-loop-i-preserved invariant-loop decreases-loop
 loop-again c =
     let l = c.before.before.before.before.before.before in
     let a = l.before.before.before.args in (
       omega arith,
-      c.before.before.put_byte.auto.0 ∙ l.loop.invariant.1,
-      more l.loop.out c.before.before.put_byte.new.0 a.from.now (splice a.out.now a.at a.from.now)
-          a.at l.loop.i (omega arith) c.before.before.put_byte.ensures l.loop.invariant.2,
+      c.before.before.put_byte.auto.out ∙ l.loop-i.invariant.1,
+      more l.loop-i.out c.before.before.put_byte.new.out a.from.now (splice a.out.now a.at a.from.now)
+          a.at l.loop-i.i (omega arith) c.before.before.put_byte.ensures l.loop-i.invariant.2,
     )
 
 returns : tie.Need-returns invariant-loop decreases-loop
 returns c =
     let a = c.before.before.before.before.args in
-    done c.before.loop.out a.from.now (splice a.out.now a.at a.from.now)
-    a.at c.before.loop.i (omega arith) c.before.loop.invariant.2
+    done c.before.loop-i.out a.from.now (splice a.out.now a.at a.from.now)
+    a.at c.before.loop-i.i (omega arith) c.before.loop-i.invariant.2
 
-pub put-bytes-spec : {M : Type 1} → statement M
-put-bytes-spec =
+pub put_bytes_spec : {M : Type 1} → statement M
+put_bytes_spec =
     tie.close
     (tie.spec invariant-loop decreases-loop loop-holds (λ c. search rules) (λ c κs. search rules) (λ c. search rules) (λ c. search rules) loop-again
-    (λ c. c.before.loop.invariant.1) returns)
+    (λ c. c.before.loop-i.invariant.1) returns)

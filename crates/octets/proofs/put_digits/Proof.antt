@@ -45,29 +45,29 @@ some out last at room k n u w r i l e =
     ∙ sym (clipped out at room (k - room) u (omega arith))
     ∙ ap (λ (x : ℕ). splice out at (digits_of x u)) (s ∙ w)
 
-returns : tie.Need-returns
+returns : tie.Need-returns-then-out-at
 returns c =
     let a = c.before.before.before.args in
-    nowhere a.out.now a.at (min a.n 8) a.u c.if1.true
+    nowhere a.out.now a.at (min a.n 8) a.u c.if-out-at.true
 
-returns-2 : tie.Need-returns-2
+returns-2 : tie.Need-returns-then-room-k
 returns-2 c =
     let p = c.before.before in
     let t = p.before.before in
     let w = t.before.before in
     let a = w.before.before.args in
-    some a.out.now p.put-run.new.0 a.at (length a.out.now - a.at) w.width.result a.n a.u
-    w.width.ensures refl (omega (arith, t.before.if1.false)) (omega (arith, t.if2.true)) p.put-run.ensures
+    some a.out.now p.put_run.new.out a.at (length a.out.now - a.at) w.width-k.result a.n a.u
+    w.width-k.ensures refl (omega (arith, t.before.if-out-at.false)) (omega (arith, t.if-room-k.true)) p.put_run.ensures
 
-returns-3 : tie.Need-returns-3
+returns-3 : tie.Need-returns
 returns-3 c =
     let p = c.before.before in
     let w = p.before.before.before.before in
     let a = w.before.before.args in
-    p.put-run2.ensures ∙ ap (λ (k : ℕ). splice a.out.now a.at (digits_of k a.u)) w.width.ensures
+    p.put_run-2.ensures ∙ ap (λ (k : ℕ). splice a.out.now a.at (digits_of k a.u)) w.width-k.ensures
 
-pub put-digits-spec : {M : Type 1} → statement M
-put-digits-spec =
+pub put_digits_spec : {M : Type 1} → statement M
+put_digits_spec =
     tie.close
     (tie.spec (λ c κs. search rules) returns (λ c. search rules) (λ c. search rules) (λ c. search rules) (λ c. search rules) (λ c κs. search rules)
     (λ c. search rules) returns-2 (λ c κs. search rules) (λ c. search rules) returns-3)

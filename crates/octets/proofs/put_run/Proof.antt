@@ -29,23 +29,23 @@ unfolding splice digits_of
 done out all at zero rest h g = g
 done out all at (suc k) rest h g = absurd (omega arith)
 
-abbrev invariant-loop : tie.invariant-loop
+abbrev invariant-loop : tie.invariant-loop-left
 invariant-loop out₀ at n u rest₀ left₀ out rest left =
     (left ≤ n) × ((length out ≡ length out₀) × (splice out at (digits_of left rest) ≡ splice out₀ at (digits_of n u)))
 
-abbrev decreases-loop : tie.decreases-loop
+abbrev decreases-loop : tie.decreases-loop-left
 decreases-loop out₀ at n u rest₀ left₀ out rest left = left
 
-loop-again : tie.Need-loop-preserved invariant-loop decreases-loop
+loop-again : tie.Need-loop-left-preserved invariant-loop decreases-loop
 loop-again c =
     let l = c.before in
     let a = l.before.args in
-    let k : ℕ = l.loop.left - 1 in (
-      omega (arith, l.loop.invariant.0),
+    let k : ℕ = l.loop-left.left - 1 in (
+      omega (arith, l.loop-left.invariant.0),
       (
-        length-set l.loop.out (a.at + k) (l.loop.rest % 256) ∙ l.loop.invariant.1.0,
-        more l.loop.out (set l.loop.out (a.at + k) (l.loop.rest % 256)) (splice a.out.now a.at (digits_of a.n a.u))
-            a.at l.loop.left l.loop.rest c.loop-test.true refl l.loop.invariant.1.1,
+        length-set l.loop-left.out (a.at + k) (l.loop-left.rest % 256) ∙ l.loop-left.invariant.1.0,
+        more l.loop-left.out (set l.loop-left.out (a.at + k) (l.loop-left.rest % 256)) (splice a.out.now a.at (digits_of a.n a.u))
+            a.at l.loop-left.left l.loop-left.rest c.loop-left-test.true refl l.loop-left.invariant.1.1,
       ),
     )
 
@@ -53,11 +53,11 @@ returns : tie.Need-returns invariant-loop decreases-loop
 returns c =
     let l = c.before in
     let a = l.before.args in
-    done l.loop.out (splice a.out.now a.at (digits_of a.n a.u)) a.at l.loop.left l.loop.rest c.loop-test.false l.loop.invariant.1.1
+    done l.loop-left.out (splice a.out.now a.at (digits_of a.n a.u)) a.at l.loop-left.left l.loop-left.rest c.loop-left-test.false l.loop-left.invariant.1.1
 
-pub put-run-spec : {M : Type 1} → statement M
-put-run-spec =
+pub put_run_spec : {M : Type 1} → statement M
+put_run_spec =
     tie.close
     (tie.spec invariant-loop decreases-loop (λ c. (omega arith, (refl, refl))) (λ c. search rules) (λ c. search rules) (λ c. search rules)
-    (λ c. omega (arith, c.before.before.requires, c.before.loop.invariant.0, c.before.loop.invariant.1.0, c.loop-test.true)) (λ c. search rules)
-    loop-again (λ c. c.before.loop.invariant.1.0) returns)
+    (λ c. omega (arith, c.before.before.requires, c.before.loop-left.invariant.0, c.before.loop-left.invariant.1.0, c.loop-left-test.true)) (λ c. search rules)
+    loop-again (λ c. c.before.loop-left.invariant.1.0) returns)

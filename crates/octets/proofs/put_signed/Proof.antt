@@ -14,10 +14,10 @@ returns c =
     let start = c.before.before.before.before.before.before in
     let a = start.args in
     let m : min a.n 8 ≤ 8 = omega arith in
-    c.before.before.put-digits.ensures
+    c.before.before.put_digits.ensures
     ∙ ap (λ (u : ℕ). splice a.out.now a.at (digits_of (min a.n 8) u))
     (c.before.before.before.pattern.ensures ∙ ap (residue 8) (to_z-of_z start.ranges.z))
     ∙ ap (splice a.out.now a.at) (digits-residue (min a.n 8) 8 a.z m)
 
-pub put-signed-spec : {M : Type 1} → statement M
-put-signed-spec = tie.close (tie.spec (λ c κs. search rules) (λ c κs. search rules) (λ c. search rules) returns)
+pub put_signed_spec : {M : Type 1} → statement M
+put_signed_spec = tie.close (tie.spec (λ c κs. search rules) (λ c κs. search rules) (λ c. search rules) returns)

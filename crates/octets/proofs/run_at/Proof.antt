@@ -29,45 +29,45 @@ room : (s : List ℕ) (at i : ℕ) → Bytes s → i < 8 → Room s at i
 unfolding unsigned_at
 room s at i b h = lt_of_lt_of_le (unsigned-lt s at (suc i) b) (pow-le-pow_right {n = 256} (lit< tt) h)
 
-abbrev invariant-loop : tie.invariant-loop
+abbrev invariant-loop : tie.invariant-loop-i
 invariant-loop s at skip n value₀ i₀ value i = (i ≤ n) × (value ≡ unsigned_at s (at + skip) i)
 
-abbrev decreases-loop : tie.decreases-loop
+abbrev decreases-loop : tie.decreases-loop-i
 decreases-loop s at skip n value₀ i₀ value i = n - i
 
-room_at : (c : tie.In-loop invariant-loop decreases-loop)
-    → Room c.before.before.before.args.s.now (c.before.before.before.args.at + c.before.before.before.args.skip) c.before.loop.i
+room_at : (c : tie.In-loop-i invariant-loop decreases-loop)
+    → Room c.before.before.before.args.s.now (c.before.before.before.args.at + c.before.before.before.args.skip) c.before.loop-i.i
 room_at c =
     let known = c.before.before in
     let a = known.before.args in
-    room a.s.now (a.at + a.skip) c.before.loop.i (λ i. omega (arith, known.shared-slice-known.given i)) (omega (arith, known.before.requires.1))
+    room a.s.now (a.at + a.skip) c.before.loop-i.i (λ i. omega (arith, known.shared_slice_known-1.given i)) (omega (arith, known.before.requires.1))
 
 -- the byte, counted from the run's first
 byte : (s : List ℕ) (at skip i b : ℕ) → b ≡ get_or s (at + (skip + i)) 0 → b ≡ get_or s (at + skip + i) 0
 byte s at skip i b e = e ∙ ap (λ (k : ℕ). get_or s k 0) (omega arith)
 
-byte-is : (c : tie.After-byte-at invariant-loop decreases-loop)
-    → c.byte_at.result ≡ get_or c.before.before.before.before.args.s.now (c.before.before.before.before.args.at + c.before.before.before.before.args.skip + c.before.before.loop.i) 0
+byte-is : (c : tie.After-byte_at invariant-loop decreases-loop)
+    → c.byte_at.result ≡ get_or c.before.before.before.before.args.s.now (c.before.before.before.before.args.at + c.before.before.before.before.args.skip + c.before.before.loop-i.i) 0
 byte-is c =
     let a = c.before.before.before.before.args in
-    byte a.s.now a.at a.skip c.before.before.loop.i c.byte_at.result c.byte_at.ensures
+    byte a.s.now a.at a.skip c.before.before.loop-i.i c.byte_at.result c.byte_at.ensures
 
-loop-again : tie.Need-loop-preserved invariant-loop decreases-loop
+loop-again : tie.Need-loop-i-preserved invariant-loop decreases-loop
 loop-again c =
     let l = c.before.before in
     let a = l.before.before.args in
-    (omega arith, next a.s.now (a.at + a.skip) l.loop.i l.loop.value c.byte_at.result l.loop.invariant.1 (byte-is c))
+    (omega arith, next a.s.now (a.at + a.skip) l.loop-i.i l.loop-i.value c.byte_at.result l.loop-i.invariant.1 (byte-is c))
 
 returns : tie.Need-returns invariant-loop decreases-loop
 returns c =
     let a = c.before.before.before.args in
-    let e : c.before.loop.i ≡ a.n = omega arith in
-    c.before.loop.invariant.1 ∙ ap (unsigned_at a.s.now (a.at + a.skip)) e
+    let e : c.before.loop-i.i ≡ a.n = omega arith in
+    c.before.loop-i.invariant.1 ∙ ap (unsigned_at a.s.now (a.at + a.skip)) e
 
-pub run-at-spec : {M : Type 1} → statement M
-run-at-spec =
+pub run_at_spec : {M : Type 1} → statement M
+run_at_spec =
     tie.close
     (tie.spec invariant-loop decreases-loop (λ c. (omega arith, none c.before.args.s.now (c.before.args.at + c.before.args.skip)))
-    (λ c. omega (arith, c.before.loop.invariant.1, room_at c))
+    (λ c. omega (arith, c.before.loop-i.invariant.1, room_at c))
     (λ c. omega (arith, c.before.before.before.requires.0, c.before.before.before.requires.1)) (λ c κs. search rules) (λ c. search rules)
-    (λ c. omega (arith, c.before.before.loop.invariant.1, byte-is c, room_at c.before)) (λ c. search rules) (λ c. search rules) loop-again returns)
+    (λ c. omega (arith, c.before.before.loop-i.invariant.1, byte-is c, room_at c.before)) (λ c. search rules) (λ c. search rules) loop-again returns)

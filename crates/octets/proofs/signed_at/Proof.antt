@@ -43,46 +43,46 @@ module _ (k : ℕ) (h : k < 2 ^ 63) where
 high : (m u last : ℕ) → Read m u last → last - u < u → negsuc (last - u) ≡ signed_of m u
 high m u last r h = sym (signed_high m u (omega (arith, r)) r.below ∙ ap negsuc (omega (arith, r)))
 
-known : (c : tie.After-greatest)
-    → Read (min c.before.before.before.args.n 8) c.before.unsigned-at.result c.greatest.result
+known : (c : tie.After-greatest-last)
+    → Read (min c.before.before.before.args.n 8) c.before.unsigned_at-u.result c.greatest-last.result
 known c =
     let s = c.before.before in
     let a = s.before.args in
     record {
-      below = rw c.before.unsigned-at.ensures (unsigned-lt a.s.now a.at (min a.n 8) (λ i. omega (arith, s.shared-slice-known.given i)));
-      ends = c.greatest.ensures;
+      below = rw c.before.unsigned_at-u.ensures (unsigned-lt a.s.now a.at (min a.n 8) (λ i. omega (arith, s.shared_slice_known-1.given i)));
+      ends = c.greatest-last.ensures;
       fits = pow-le-pow_right {n = 256} (lit< tt) {i = min a.n 8} {j = 8} (omega arith);
     }
 
-told : (c : tie.After-greatest)
-    → signed_of (min c.before.before.before.args.n 8) c.before.unsigned-at.result
+told : (c : tie.After-greatest-last)
+    → signed_of (min c.before.before.before.args.n 8) c.before.unsigned_at-u.result
     ≡ signed_at c.before.before.before.args.s.now c.before.before.before.args.at (min c.before.before.before.args.n 8)
 unfolding signed_at
-told c = ap (signed_of (min c.before.before.before.args.n 8)) c.before.unsigned-at.ensures
+told c = ap (signed_of (min c.before.before.before.args.n 8)) c.before.unsigned_at-u.ensures
 
-returns : tie.Need-returns
+returns : tie.Need-returns-then-u-last
 returns c =
-    low (min c.before.before.before.before.args.n 8) c.before.before.unsigned-at.result c.before.greatest.result
+    low (min c.before.before.before.before.args.n 8) c.before.before.unsigned_at-u.result c.before.greatest-last.result
     (known c.before)
-    c.if1.true
+    c.if-u-last.true
     ∙ told c.before
 
-gap : (c : tie.Else1) → c.before.greatest.result - c.before.before.unsigned-at.result < 2 ^ 63
+gap : (c : tie.Else-u-last) → c.before.greatest-last.result - c.before.before.unsigned_at-u.result < 2 ^ 63
 gap c = omega (arith, known c.before)
 
-returns-2 : tie.Need-returns-2
+returns-2 : tie.Need-returns
 returns-2 c =
-    let last = c.before.greatest.result in
-    let u = c.before.before.unsigned-at.result in
+    let last = c.before.greatest-last.result in
+    let u = c.before.before.unsigned_at-u.result in
     to_z-of_z (fits-down (last - u) (gap c))
     ∙ down (last - u) (gap c)
-    ∙ high (min c.before.before.before.before.args.n 8) u last (known c.before) c.if1.false
+    ∙ high (min c.before.before.before.before.args.n 8) u last (known c.before) c.if-u-last.false
     ∙ told c.before
 
-pub signed-at-spec : {M : Type 1} → statement M
-signed-at-spec =
+pub signed_at_spec : {M : Type 1} → statement M
+signed_at_spec =
     tie.close
     (tie.spec (λ c κs. search rules) (λ c κs. search rules) (λ c. omega (arith, known c)) (λ c. search rules) returns
     (λ c. omega (arith, known c.before)) (λ c. search rules)
-    (λ c. fit (back (c.before.greatest.result - c.before.before.unsigned-at.result) (gap c)) (gap c))
-    (λ c. fits-down (c.before.greatest.result - c.before.before.unsigned-at.result) (gap c)) returns-2)
+    (λ c. fit (back (c.before.greatest-last.result - c.before.before.unsigned_at-u.result) (gap c)) (gap c))
+    (λ c. fits-down (c.before.greatest-last.result - c.before.before.unsigned_at-u.result) (gap c)) returns-2)
