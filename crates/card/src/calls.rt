@@ -82,7 +82,7 @@ pub fn moved(c: Card, d: i64) -> Answer
 }
 
 // What a frame gives at a card's mark and epoch: A + B x epoch in grains, and B in grains a quarter-day.
-#[derive(Drop)]
+#[derive(Clone, Copy)]
 struct AtEpoch {
     at: Vec3,
     rate: Vec3,

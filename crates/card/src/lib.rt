@@ -15,7 +15,7 @@ mod checks;
 mod vectors;
 
 // A card. Any value may be handed to any call.
-#[derive(Drop)]
+#[derive(Clone, Copy)]
 pub struct Card {
     // five digits, M or S, three digits
     pub site: [u8; 9],
@@ -36,21 +36,21 @@ pub struct Card {
 }
 
 // A refusal number, 0 when accepted, and a card.
-#[derive(Drop)]
+#[derive(Clone, Copy)]
 pub struct Answer {
     pub number: u32,
     pub card: Card,
 }
 
 // A refusal number, 0 when accepted, and where a card stands from its mark, grains: zeros when refused.
-#[derive(Drop)]
+#[derive(Clone, Copy)]
 pub struct Offset {
     pub number: u32,
     pub grains: Vec3,
 }
 
 // A call on a card, as data.
-#[derive(Drop)]
+#[derive(Clone, Copy)]
 pub enum Call {
     // quarter-days
     Move(i64),

@@ -11,7 +11,7 @@ use card::{Answer, Card};
 use codec::CARD_LENGTH;
 
 // What a lookup finds: its refusal number, 0 when found, and the record's first byte, the catalogue's length when refused.
-#[derive(Drop)]
+#[derive(Clone, Copy)]
 struct Found {
     number: u32,
     place: usize,
@@ -19,7 +19,7 @@ struct Found {
 
 // What the check of a whole catalogue answers: 0 and the number of cards, 14 and 0, or the first bad card's own number and its place, counted
 // in cards from 0.
-#[derive(Drop)]
+#[derive(Clone, Copy)]
 pub struct Checked {
     pub number: u32,
     pub place: usize,
@@ -27,7 +27,7 @@ pub struct Checked {
 
 // One step of a reader: a refusal number, 0 when accepted, whether nothing was left, the card, and the place of the next
 // step in bytes. Refused or done, the card is all zeros.
-#[derive(Drop)]
+#[derive(Clone, Copy)]
 pub struct Taken {
     pub number: u32,
     pub done: bool,
@@ -36,7 +36,7 @@ pub struct Taken {
 }
 
 // A reader over a lent catalogue: the bytes, and the place of the next step in bytes.
-#[derive(Drop)]
+#[derive(Clone, Copy)]
 pub struct Reader<'a> {
     src: &'a [u8],
     at: usize,

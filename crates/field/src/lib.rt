@@ -14,7 +14,7 @@ mod record;
 pub const FIELD_LENGTH: usize = 48;
 
 // A refusal number, 0 when accepted, and three doubles.
-#[derive(Drop)]
+#[derive(Clone, Copy)]
 pub struct Metres {
     pub number: u32,
     pub x: f64,

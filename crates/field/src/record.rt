@@ -13,7 +13,7 @@ use mark::{Vec3, sized};
 const METRE: i64 = 1461000000;
 
 // What a field record holds: the offset from the mark in 0.1 mm, the speed in 0.1 mm a year.
-#[derive(Drop)]
+#[derive(Clone, Copy)]
 pub struct Opened {
     pub site: [u8; 9],
     pub frame: u8,

@@ -13,7 +13,7 @@ mod rows;
 pub const LAST_FRAME: u8 = 11;
 
 // A refusal number, and A in grains, B in grains a quarter-day: zeros when refused.
-#[derive(Drop)]
+#[derive(Clone, Copy)]
 pub struct Terms {
     pub number: u32,
     pub a: Vec3,

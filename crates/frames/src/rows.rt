@@ -5,7 +5,7 @@ ghost use Rattle.frames.specs.Frame as F;
 use mark::Vec3;
 
 // A line of the table: T in 0.1 mm, D in 0.01 ppb, R in 0.01 mas, or the same a year.
-#[derive(Drop)]
+#[derive(Clone, Copy)]
 pub struct Line {
     pub t: Vec3,
     pub d: i64,
@@ -13,7 +13,7 @@ pub struct Line {
 }
 
 // A frame's two lines: at 2000.0, and the rates.
-#[derive(Drop)]
+#[derive(Clone, Copy)]
 pub struct Row {
     pub at: Line,
     pub rates: Line,

@@ -12,7 +12,7 @@ const LEAST: u64 = 6300000;
 const MOST: u64 = 6400000;
 
 // Three numbers: whole metres of a mark, grains of a shift.
-#[derive(Drop)]
+#[derive(Clone, Copy)]
 pub struct Vec3 {
     pub x: i64,
     pub y: i64,

@@ -10,7 +10,7 @@ ghost use Rattle.numbers.specs.Whole as W;
 
 // What a double is as a whole number: the number, that it lies past 2^30 on either side, or that it is infinite or not a
 // number.
-#[derive(Drop)]
+#[derive(Clone, Copy)]
 pub enum Rounded {
     NotFinite,
     Far,

@@ -9,7 +9,7 @@ use mark::Vec3;
 mod many;
 
 // What a series answers: 0 and the number of rows, 10 or 11 and the first bad row, 6 or 16 and 0.
-#[derive(Drop)]
+#[derive(Clone, Copy)]
 pub struct Rows {
     pub number: u32,
     pub row: usize,

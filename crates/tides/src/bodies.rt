@@ -16,7 +16,7 @@ pub const SUN_LEAST: u64 = 146000000;
 pub const SUN_MOST: u64 = 153000000;
 
 // What is seen of a body: 10 not finite, 11 out of reach, else 0, its whole vector and the sum of its squares.
-#[derive(Drop)]
+#[derive(Clone, Copy)]
 pub struct Sight {
     pub number: u32,
     pub at: Vec3,
@@ -24,14 +24,14 @@ pub struct Sight {
 }
 
 // A double as a whole number; past 2^30 in size it is 2^31.
-#[derive(Drop)]
+#[derive(Clone, Copy)]
 pub struct Coordinate {
     pub finite: bool,
     pub value: i64,
 }
 
 // Three of them.
-#[derive(Drop)]
+#[derive(Clone, Copy)]
 pub struct Wholes {
     pub finite: bool,
     pub at: Vec3,

@@ -17,28 +17,28 @@ mod mean;
 mod solid;
 
 // A refusal number, 0 when accepted, and the shift in grains: zeros when refused.
-#[derive(Drop)]
+#[derive(Clone, Copy)]
 pub struct Shift {
     pub number: u32,
     pub shift: Vec3,
 }
 
 // Where a body is: metres for a Moon, kilometres for a Sun.
-#[derive(Drop)]
+#[derive(Clone, Copy)]
 pub struct BodyVector {
     pub x: f64,
     pub y: f64,
     pub z: f64,
 }
 
-#[derive(Drop)]
+#[derive(Clone, Copy)]
 pub enum Body {
     Moon(BodyVector),
     Sun(BodyVector),
 }
 
 // The direction of a mark, in units of 1/E, with 0; zeros with 6.
-#[derive(Drop)]
+#[derive(Clone, Copy)]
 pub struct Aim {
     pub number: u32,
     pub u: Vec3,

@@ -25,7 +25,7 @@ const SUN_R0: i64 = 149597870;
 const SUN_K0: i64 = 240449078;
 
 // How a body stands to the mark, in units of 1/E: q, which is R0/R, its unit vector d, and c, the cosine between the two unit vectors.
-#[derive(Drop)]
+#[derive(Clone, Copy)]
 pub struct Standing {
     pub q: i64,
     pub d: Vec3,

@@ -14,7 +14,7 @@ use mark::Vec3;
 use tides::{Body, BodyVector};
 
 // A vector that was read: whether there was one, its kind, and how many bytes of its payload were read.
-#[derive(Drop)]
+#[derive(Clone, Copy)]
 pub struct Vector {
     pub more: bool,
     pub kind: u64,

@@ -17,10 +17,10 @@ returns c =
     let second = c.before.before in
     let first = second.before.before.before.before.before in
     let a = first.before.before.before.before.args in
-    both a.out.now first.put-bytes.new.0 second.put-bytes2.new.0 a.t2 a.frame a.tide
-    first.put-bytes.ensures
-    second.put-bytes2.ensures
+    both a.out.now first.put_bytes.new.out second.put_bytes-2.new.out a.t2 a.frame a.tide
+    first.put_bytes.ensures
+    second.put_bytes-2.ensures
 
-pub put-head-spec : {M : Type 1} → statement M
-put-head-spec =
+pub put_head_spec : {M : Type 1} → statement M
+put_head_spec =
     tie.close (tie.spec (λ c. search rules) (λ c κs. search rules) (λ c. search rules) (λ c κs. search rules) (λ c. search rules) returns)

@@ -34,15 +34,15 @@ returns c =
     let first = second.before.before.before.before.before in
     let wide = first.before.before.before in
     let a = wide.before.before.args in
-    let n : ℕ = wide.width.result in
-    let e : n ≡ min a.w 8 = wide.width.ensures in
-    all a.out.now first.put-signed.new.0 second.put-signed2.new.0 third.put-signed3.new.0 a.at (min a.w 8) a.v
-    (put a.out.now first.put-signed.new.0 a.at _ n a.w a.v.x e (omega arith) (record { sfits = first.before.struct_told.given.0.1 }) first.put-signed.ensures)
-    (put first.put-signed.new.0 second.put-signed2.new.0 (a.at + min a.w 8) _ n a.w a.v.y e (omega arith) (record { sfits = second.before.struct-told2.given.1.0.1 }) second.put-signed2.ensures)
-    (put second.put-signed2.new.0 third.put-signed3.new.0 (a.at + 2 * min a.w 8) _ n a.w a.v.z e (omega arith) (record { sfits = third.before.struct-told3.given.1.1.0.1 }) third.put-signed3.ensures)
+    let n : ℕ = wide.width-n.result in
+    let e : n ≡ min a.w 8 = wide.width-n.ensures in
+    all a.out.now first.put_signed.new.out second.put_signed-2.new.out third.put_signed-3.new.out a.at (min a.w 8) a.v
+    (put a.out.now first.put_signed.new.out a.at _ n a.w a.v.x e (omega arith) (record { sfits = first.before.struct_told-1.given.0.1 }) first.put_signed.ensures)
+    (put first.put_signed.new.out second.put_signed-2.new.out (a.at + min a.w 8) _ n a.w a.v.y e (omega arith) (record { sfits = second.before.struct_told-2-1.given.1.0.1 }) second.put_signed-2.ensures)
+    (put second.put_signed-2.new.out third.put_signed-3.new.out (a.at + 2 * min a.w 8) _ n a.w a.v.z e (omega arith) (record { sfits = third.before.struct_told-3-1.given.1.1.0.1 }) third.put_signed-3.ensures)
 
-pub put-vector-spec : {M : Type 1} → statement M
-put-vector-spec =
+pub put_vector_spec : {M : Type 1} → statement M
+put_vector_spec =
     tie.close
     (tie.spec (λ c κs. search rules) (λ c. search rules) (λ c κs. search rules) (λ c κs. search rules) (λ c. search rules) (λ c κs. search rules)
     (λ c. search rules) returns)

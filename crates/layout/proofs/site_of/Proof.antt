@@ -30,14 +30,14 @@ short : (s : List ℕ) → length s < 9 → replicate 9 0 ≡ site_of s
 unfolding site_of
 short s h = rw (lt-ltb (length s) 9 h)
 
-returns : tie.Need-returns
-returns c = short c.before.args.s.now c.if1.true
+returns : tie.Need-returns-then-s-lt9
+returns c = short c.before.args.s.now c.if-s-lt9.true
 
-returns-2 : tie.Need-returns-2
-returns-2 c = nine c.before.before.before.before.before.before.before.before.before.before.args.s.now c.before.before.before.before.before.before.before.before.before.if1.false
+returns-2 : tie.Need-returns
+returns-2 c = nine c.before.before.before.before.before.before.before.before.before.before.args.s.now c.before.before.before.before.before.before.before.before.before.if-s-lt9.false
 
-pub site-of-spec : {M : Type 1} → statement M
-site-of-spec =
+pub site_of_spec : {M : Type 1} → statement M
+site_of_spec =
     tie.close
     (tie.spec returns (λ c. search rules) (λ c. search rules) (λ c. search rules) (λ c. search rules) (λ c. search rules) (λ c. search rules)
     (λ c. search rules) (λ c. search rules) (λ c. search rules) returns-2)

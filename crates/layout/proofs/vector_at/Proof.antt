@@ -23,18 +23,18 @@ unfolding vector_at
 returns c =
     let wide = c.before.before.before in
     let a = wide.before.before.args in
-    let n : ℕ = wide.width.result in
-    let e : n ≡ min a.w 8 = wide.width.ensures in
-    let first = c.before.before.signed-at in
-    let second = c.before.signed-at2 in
-    let third = c.signed-at3 in
+    let n : ℕ = wide.width-n.result in
+    let e : n ≡ min a.w 8 = wide.width-n.ensures in
+    let first = c.before.before.signed_at in
+    let second = c.before.signed_at-2 in
+    let third = c.signed_at-3 in
     vec≡
     (came a.s.now a.at _ n a.w first.result e (omega arith) first.type-inv first.ensures)
     (came a.s.now (a.at + min a.w 8) _ n a.w second.result e (omega arith) second.type-inv second.ensures)
     (came a.s.now (a.at + 2 * min a.w 8) _ n a.w third.result e (omega arith) third.type-inv third.ensures)
 
-pub vector-at-spec : {M : Type 1} → statement M
-vector-at-spec =
+pub vector_at_spec : {M : Type 1} → statement M
+vector_at_spec =
     tie.close
     (tie.spec (λ c κs. search rules) (λ c. search rules) (λ c κs. search rules) (λ c κs. search rules) (λ c. search rules) (λ c κs. search rules)
     returns)

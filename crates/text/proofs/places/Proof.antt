@@ -13,21 +13,21 @@ pub record Counted (n rest count k : ℕ) : Type 0 where
   pub small : rest < 10 ^ (k + 1)
   pub left : places n + 1 ≡ count + places_in k rest
 
-abbrev invariant-loop : tie.invariant-loop
+abbrev invariant-loop : tie.invariant-loop-rest
 invariant-loop n rest₀ count₀ rest count = Counted n rest count (20 - count)
 
-abbrev decreases-loop : tie.decreases-loop
+abbrev decreases-loop : tie.decreases-loop-rest
 decreases-loop n rest₀ count₀ rest count = rest
 
 whole : (n : ℕ) → n < 2 ^ 64 → Counted n n 1 19
 unfolding places
 whole n h = record { spent = refl; small = omega arith; left = omega arith }
 
-loop-holds : tie.Need-loop-init invariant-loop decreases-loop
+loop-holds : tie.Need-loop-rest-init invariant-loop decreases-loop
 loop-holds c = whole c.args.n (omega arith)
 
-add-count : tie.Need-overflow-add-count invariant-loop decreases-loop
-add-count c = omega (arith, c.before.loop.invariant.spent)
+add-count : tie.Need-overflow_add-count invariant-loop decreases-loop
+add-count c = omega (arith, c.before.loop-rest.invariant.spent)
 
 next : (n rest count k : ℕ) → 10 ≤ rest → Counted n rest count k → Counted n (rest / 10) (count + 1) (20 - (count + 1))
 next n rest count k h p =
@@ -41,15 +41,15 @@ next n rest count k h p =
       left = omega (arith, p.left, m.step);
     }
 
-loop-again : tie.Need-loop-preserved invariant-loop decreases-loop
-loop-again c = let l = c.before.loop in next c.before.before.args.n l.rest l.count (20 - l.count) c.loop-test.true l.invariant
+loop-again : tie.Need-loop-rest-preserved invariant-loop decreases-loop
+loop-again c = let l = c.before.loop-rest in next c.before.before.args.n l.rest l.count (20 - l.count) c.loop-rest-test.true l.invariant
 
 returns : tie.Need-returns invariant-loop decreases-loop
 returns c =
-    let l = c.before.loop in
-    let e = places-last (20 - l.count) l.rest c.loop-test.false in
+    let l = c.before.loop-rest in
+    let e = places-last (20 - l.count) l.rest c.loop-rest-test.false in
     omega (arith, l.invariant.left, e)
 
-pub places-spec : {M : Type 1} → statement M
-places-spec =
+pub places_spec : {M : Type 1} → statement M
+places_spec =
     tie.close (tie.spec invariant-loop decreases-loop loop-holds add-count (λ c. omega arith) loop-again returns)

@@ -28,30 +28,30 @@ done : (out s all : List ℕ) (at i : ℕ) → length s ≤ i → splice out (at
 unfolding splice hex_of
 done out s all at i h g = ap (λ (t : List ℕ). splice out (at + 2 * i) (hex_of t)) (sym (drop_of_length-le s h)) ∙ g
 
-abbrev invariant-loop : tie.invariant-loop
+abbrev invariant-loop : tie.invariant-loop-i
 invariant-loop out₀ at s i₀ out i =
     (i ≤ length s) × (length out ≡ length out₀) × (splice out (at + 2 * i) (hex_of (drop i s)) ≡ splice out₀ at (hex_of s))
 
-abbrev decreases-loop : tie.decreases-loop
+abbrev decreases-loop : tie.decreases-loop-i
 decreases-loop out₀ at s i₀ out i = length s - i
 
-loop-holds : tie.Need-loop-init invariant-loop decreases-loop
+loop-holds : tie.Need-loop-i-init invariant-loop decreases-loop
 loop-holds c =
     let a = c.before.before.args in
     (search rules, refl, ap (λ (k : ℕ). splice a.out.now k (hex_of a.s.now)) (omega arith))
 
-loop-again : tie.Need-loop-preserved invariant-loop decreases-loop
+loop-again : tie.Need-loop-i-preserved invariant-loop decreases-loop
 loop-again c =
     let second = c.before.before in
     let first = second.before.before.before.before.before.before in
     let l = first.before.before.before.before.before in
     let a = l.before.before.before.args in (
       omega arith,
-      omega (arith, second.put-byte2.auto.0, first.put_byte.auto.0, l.loop.invariant.1),
-      more l.loop.out first.put_byte.new.0 second.put-byte2.new.0 a.s.now (splice a.out.now a.at (hex_of a.s.now))
-          a.at l.loop.i first.before.hex-digit.result second.before.hex-digit2.result first.before.before.before.before.loop-test.true
-          first.before.hex-digit.ensures second.before.hex-digit2.ensures first.put_byte.ensures second.put-byte2.ensures
-          l.loop.invariant.2,
+      omega (arith, second.put_byte-in-loop-i.auto.out, first.put_byte.auto.out, l.loop-i.invariant.1),
+      more l.loop-i.out first.put_byte.new.out second.put_byte-in-loop-i.new.out a.s.now (splice a.out.now a.at (hex_of a.s.now))
+          a.at l.loop-i.i first.before.hex_digit.result second.before.hex_digit-in-loop-i.result first.before.before.before.before.loop-i-test.true
+          first.before.hex_digit.ensures second.before.hex_digit-in-loop-i.ensures first.put_byte.ensures second.put_byte-in-loop-i.ensures
+          l.loop-i.invariant.2,
     )
 
 returns : tie.Need-returns invariant-loop decreases-loop
@@ -59,12 +59,12 @@ returns c =
     let l = c.before.before in
     let a = l.before.before.before.args in (
       omega (arith, c.after.ensures, length-hex a.s.now),
-      done l.loop.out a.s.now (splice a.out.now a.at (hex_of a.s.now)) a.at l.loop.i c.before.loop-test.false l.loop.invariant.2,
+      done l.loop-i.out a.s.now (splice a.out.now a.at (hex_of a.s.now)) a.at l.loop-i.i c.before.loop-i-test.false l.loop-i.invariant.2,
     )
 
-pub put-hex-spec : {M : Type 1} → statement M
-put-hex-spec =
+pub put_hex_spec : {M : Type 1} → statement M
+put_hex_spec =
     tie.close
     (tie.spec invariant-loop decreases-loop loop-holds (λ c. search rules) (λ c. search rules) (λ c κs. search rules) (λ c κs. search rules) (λ c. search rules)
     (λ c. search rules) (λ c. search rules) (λ c κs. search rules) (λ c κs. search rules) (λ c. search rules) (λ c. search rules) loop-again
-    (λ c. search rules) (λ c κs. search rules) (λ c. c.before.before.loop.invariant.1) returns)
+    (λ c. search rules) (λ c κs. search rules) (λ c. c.before.before.loop-i.invariant.1) returns)

@@ -22,20 +22,20 @@ above : (k m : ℕ) → m ≡ k → natural m ≡ integer (pos k)
 unfolding integer
 above k m e = ap natural e
 
-size : (c : tie.After-magnitude) → c.magnitude.result ≡ nat_abs c.before.before.args.z
-size c = c.magnitude.ensures ∙ ap nat_abs (to_z-of_z c.before.before.ranges.z)
+size : (c : tie.After-magnitude-m) → c.magnitude-m.result ≡ nat_abs c.before.before.args.z
+size c = c.magnitude-m.ensures ∙ ap nat_abs (to_z-of_z c.before.before.ranges.z)
 
-minus-text : (c : tie.Then1) → 45 ∷ natural c.before.magnitude.result ≡ integer c.before.before.before.args.z
+minus-text : (c : tie.Then-z-lt0) → 45 ∷ natural c.before.magnitude-m.result ≡ integer c.before.before.before.args.z
 minus-text c =
-    let k = negative c.before.before.before.args.z c.before.before.before.ranges.z c.if1.true in
-    below k.k c.before.magnitude.result (size c.before ∙ ap nat_abs k.is) ∙ sym (ap integer k.is)
+    let k = negative c.before.before.before.args.z c.before.before.before.ranges.z c.if-z-lt0.true in
+    below k.k c.before.magnitude-m.result (size c.before ∙ ap nat_abs k.is) ∙ sym (ap integer k.is)
 
-plus-text : (c : tie.Else1) → natural c.before.magnitude.result ≡ integer c.before.before.before.args.z
+plus-text : (c : tie.Else-z-lt0) → natural c.before.magnitude-m.result ≡ integer c.before.before.before.args.z
 plus-text c =
-    let k = positive c.before.before.before.args.z c.before.before.before.ranges.z c.if1.false in
-    above k.k c.before.magnitude.result (size c.before ∙ ap nat_abs k.is) ∙ sym (ap integer k.is)
+    let k = positive c.before.before.before.args.z c.before.before.before.ranges.z c.if-z-lt0.false in
+    above k.k c.before.magnitude-m.result (size c.before ∙ ap nat_abs k.is) ∙ sym (ap integer k.is)
 
-returns : tie.Need-returns
+returns : tie.Need-returns-then-z-lt0
 returns c =
     let d = c.before.before in
     let s = d.before.before.before.before in
@@ -43,23 +43,23 @@ returns c =
     let a = t.before.before.before.args in
     let p =
     put_as (minus-text t)
-    (put-more (natural t.before.magnitude.result)
-    (put-more (45 ∷ []) (put-none a.out.now a.at (omega arith) (omega arith)) s.put-bytes.ensures.0 s.put-bytes.ensures.1)
-    d.put-natural.ensures.0 d.put-natural.ensures.1) in
+    (put-more (natural t.before.magnitude-m.result)
+    (put-more (45 ∷ []) (put-none a.out.now a.at (omega arith) (omega arith)) s.put_bytes-first.ensures.0 s.put_bytes-first.ensures.1)
+    d.put_natural.ensures.0 d.put_natural.ensures.1) in
     (p.place, p.holds)
 
-returns-2 : tie.Need-returns-2
+returns-2 : tie.Need-returns
 returns-2 c =
     let d = c.before.before in
     let t = d.before.before in
     let a = t.before.before.before.args in
     let e = plus-text t in (
-      d.put-natural2.ensures.0 ∙ ap (λ (u : List ℕ). after a.at (length u)) e,
-      d.put-natural2.ensures.1 ∙ ap (splice a.out.now a.at) e,
+      d.put_natural-2.ensures.0 ∙ ap (λ (u : List ℕ). after a.at (length u)) e,
+      d.put_natural-2.ensures.1 ∙ ap (splice a.out.now a.at) e,
     )
 
-pub put-integer-spec : {M : Type 1} → statement M
-put-integer-spec =
+pub put_integer_spec : {M : Type 1} → statement M
+put_integer_spec =
     tie.close
     (tie.spec (λ c κs. search rules) (λ c. search rules) (λ c κs. search rules) (λ c κs. search rules) (λ c. search rules) returns
     (λ c κs. search rules) (λ c. search rules) returns-2)

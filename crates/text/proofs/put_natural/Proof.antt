@@ -17,10 +17,10 @@ pub record Left (out₀ out : List ℕ) (at n count rest left : ℕ) : Type 0 wh
   pub all : count ≡ places n
   pub same : splice out at (digits left rest) ≡ splice out₀ at (natural n)
 
-abbrev invariant-loop : tie.invariant-loop
+abbrev invariant-loop : tie.invariant-loop-left
 invariant-loop out₀ at n count rest₀ left₀ out rest left = Left out₀ out at n count rest left
 
-abbrev decreases-loop : tie.decreases-loop
+abbrev decreases-loop : tie.decreases-loop-left
 decreases-loop out₀ at n count rest₀ left₀ out rest left = left
 
 -- the last digit, and the others
@@ -45,34 +45,34 @@ whole : (out : List ℕ) (at n count : ℕ) → count ≡ places n → Left out 
 unfolding natural
 whole out at n count e = record { kept = refl; all = e; same = ap (λ (k : ℕ). splice out at (digits k n)) e }
 
-loop-holds : tie.Need-loop-init invariant-loop decreases-loop
+loop-holds : tie.Need-loop-left-init invariant-loop decreases-loop
 loop-holds c =
     let a = c.before.before.args in
-    whole a.out.now a.at a.n c.places.result c.places.ensures
+    whole a.out.now a.at a.n c.places-count.result c.places-count.ensures
 
-loop-again : tie.Need-loop-preserved invariant-loop decreases-loop
+loop-again : tie.Need-loop-left-preserved invariant-loop decreases-loop
 loop-again c =
     let p = c.before.before in
     let l = p.before.before.before in
     let a = l.before.before.before.args in
     record {
-      kept = p.put_byte.auto.0 ∙ l.loop.invariant.kept;
-      all = l.loop.invariant.all;
+      kept = p.put_byte.auto.out ∙ l.loop-left.invariant.kept;
+      all = l.loop-left.invariant.all;
       same =
-          more l.loop.out p.put_byte.new.0 (splice a.out.now a.at (natural a.n)) a.at l.loop.left l.loop.rest
-          p.before.before.loop-test.true p.put_byte.ensures l.loop.invariant.same;
+          more l.loop-left.out p.put_byte.new.out (splice a.out.now a.at (natural a.n)) a.at l.loop-left.left l.loop-left.rest
+          p.before.before.loop-left-test.true p.put_byte.ensures l.loop-left.invariant.same;
     }
 
 returns : tie.Need-returns invariant-loop decreases-loop
 returns c =
     let l = c.before.before in
     let a = l.before.before.before.args in (
-      omega (arith, c.after.ensures, l.loop.invariant.all, length-natural a.n),
-      done l.loop.out (splice a.out.now a.at (natural a.n)) a.at l.loop.left l.loop.rest c.before.loop-test.false l.loop.invariant.same,
+      omega (arith, c.after.ensures, l.loop-left.invariant.all, length-natural a.n),
+      done l.loop-left.out (splice a.out.now a.at (natural a.n)) a.at l.loop-left.left l.loop-left.rest c.before.loop-left-test.false l.loop-left.invariant.same,
     )
 
-pub put-natural-spec : {M : Type 1} → statement M
-put-natural-spec =
+pub put_natural_spec : {M : Type 1} → statement M
+put_natural_spec =
     tie.close
     (tie.spec invariant-loop decreases-loop (λ c κs. search rules) loop-holds (λ c. search rules) (λ c. search rules) (λ c. search rules) (λ c κs. search rules)
-    (λ c. search rules) loop-again (λ c κs. search rules) (λ c. c.before.before.loop.invariant.kept) returns)
+    (λ c. search rules) loop-again (λ c κs. search rules) (λ c. c.before.before.loop-left.invariant.kept) returns)

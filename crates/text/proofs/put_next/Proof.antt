@@ -16,10 +16,10 @@ returns c =
     let a = b.args in
     let p =
     put_same integer (to_z-of_z b.ranges.z)
-    (put-more (32 ∷ []) (put-none a.out.now a.at (omega arith) (omega arith)) s.put-bytes.ensures.0 s.put-bytes.ensures.1)
-    n.put-integer.ensures.0 n.put-integer.ensures.1 in
+    (put-more (32 ∷ []) (put-none a.out.now a.at (omega arith) (omega arith)) s.put_bytes-first.ensures.0 s.put_bytes-first.ensures.1)
+    n.put_integer.ensures.0 n.put_integer.ensures.1 in
     (p.place, p.holds)
 
-pub put-next-spec : {M : Type 1} → statement M
-put-next-spec =
+pub put_next_spec : {M : Type 1} → statement M
+put_next_spec =
     tie.close (tie.spec (λ c. search rules) (λ c κs. search rules) (λ c κs. search rules) (λ c. search rules) returns)
