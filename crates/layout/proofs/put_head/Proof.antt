@@ -14,12 +14,9 @@ both s a t site frame tide e f = cc
 
 returns : tie.Need-returns
 returns c =
-    let second = c.before.before in
-    let first = second.before.before.before.before.before in
-    let a = first.before.before.before.before.args in
-    both a.out.now first.put_bytes.new.out second.put_bytes-2.new.out a.t2 a.frame a.tide
-    first.put_bytes.ensures
-    second.put_bytes-2.ensures
+    both c.args.out.now c.put_bytes.new.out c.put_bytes-2.new.out c.args.site c.args.frame c.args.tide
+    c.put_bytes.ensures
+    c.put_bytes-2.ensures
 
 pub put_head_spec : {M : Type 1} → statement M
 put_head_spec =

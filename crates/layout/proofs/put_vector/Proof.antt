@@ -29,17 +29,12 @@ all s a b t at w v e f g = cc
 
 returns : tie.Need-returns
 returns c =
-    let third = c.before.before in
-    let second = third.before.before.before.before.before in
-    let first = second.before.before.before.before.before in
-    let wide = first.before.before.before in
-    let a = wide.before.before.args in
-    let n : ℕ = wide.width-n.result in
-    let e : n ≡ min a.w 8 = wide.width-n.ensures in
-    all a.out.now first.put_signed.new.out second.put_signed-2.new.out third.put_signed-3.new.out a.at (min a.w 8) a.v
-    (put a.out.now first.put_signed.new.out a.at _ n a.w a.v.x e (omega arith) (record { sfits = first.before.struct_told-1.given.0.1 }) first.put_signed.ensures)
-    (put first.put_signed.new.out second.put_signed-2.new.out (a.at + min a.w 8) _ n a.w a.v.y e (omega arith) (record { sfits = second.before.struct_told-2-1.given.1.0.1 }) second.put_signed-2.ensures)
-    (put second.put_signed-2.new.out third.put_signed-3.new.out (a.at + 2 * min a.w 8) _ n a.w a.v.z e (omega arith) (record { sfits = third.before.struct_told-3-1.given.1.1.0.1 }) third.put_signed-3.ensures)
+    let n : ℕ = c.width-n.result in
+    let e : n ≡ min c.args.w 8 = c.width-n.ensures in
+    all c.args.out.now c.put_signed.new.out c.put_signed-2.new.out c.put_signed-3.new.out c.args.at (min c.args.w 8) c.args.v
+    (put c.args.out.now c.put_signed.new.out c.args.at _ n c.args.w c.args.v.x e (omega arith) (record { sfits = c.struct_told-1.given.0.1 }) c.put_signed.ensures)
+    (put c.put_signed.new.out c.put_signed-2.new.out (c.args.at + min c.args.w 8) _ n c.args.w c.args.v.y e (omega arith) (record { sfits = c.struct_told-2-1.given.1.0.1 }) c.put_signed-2.ensures)
+    (put c.put_signed-2.new.out c.put_signed-3.new.out (c.args.at + 2 * min c.args.w 8) _ n c.args.w c.args.v.z e (omega arith) (record { sfits = c.struct_told-3-1.given.1.1.0.1 }) c.put_signed-3.ensures)
 
 pub put_vector_spec : {M : Type 1} → statement M
 put_vector_spec =

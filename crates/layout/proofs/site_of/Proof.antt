@@ -31,10 +31,10 @@ unfolding site_of
 short s h = rw (lt-ltb (length s) 9 h)
 
 returns : tie.Need-returns-then-s-lt9
-returns c = short c.before.args.s.now c.if-s-lt9.true
+returns c = short c.args.s.now c.if-s-lt9.true
 
 returns-2 : tie.Need-returns
-returns-2 c = nine c.before.before.before.before.before.before.before.before.before.before.args.s.now c.before.before.before.before.before.before.before.before.before.if-s-lt9.false
+returns-2 c = nine c.args.s.now c.if-s-lt9.false
 
 pub site_of_spec : {M : Type 1} → statement M
 site_of_spec =

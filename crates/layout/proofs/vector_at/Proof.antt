@@ -21,17 +21,15 @@ came s at place n w r h p ok e = answered r ok ∙ e ∙ ap₂ (signed_at s) p (
 returns : tie.Need-returns
 unfolding vector_at
 returns c =
-    let wide = c.before.before.before in
-    let a = wide.before.before.args in
-    let n : ℕ = wide.width-n.result in
-    let e : n ≡ min a.w 8 = wide.width-n.ensures in
-    let first = c.before.before.signed_at in
-    let second = c.before.signed_at-2 in
+    let n : ℕ = c.width-n.result in
+    let e : n ≡ min c.args.w 8 = c.width-n.ensures in
+    let first = c.signed_at in
+    let second = c.signed_at-2 in
     let third = c.signed_at-3 in
     vec≡
-    (came a.s.now a.at _ n a.w first.result e (omega arith) first.type-inv first.ensures)
-    (came a.s.now (a.at + min a.w 8) _ n a.w second.result e (omega arith) second.type-inv second.ensures)
-    (came a.s.now (a.at + 2 * min a.w 8) _ n a.w third.result e (omega arith) third.type-inv third.ensures)
+    (came c.args.s.now c.args.at _ n c.args.w first.result e (omega arith) first.type_inv first.ensures)
+    (came c.args.s.now (c.args.at + min c.args.w 8) _ n c.args.w second.result e (omega arith) second.type_inv second.ensures)
+    (came c.args.s.now (c.args.at + 2 * min c.args.w 8) _ n c.args.w third.result e (omega arith) third.type_inv third.ensures)
 
 pub vector_at_spec : {M : Type 1} → statement M
 vector_at_spec =

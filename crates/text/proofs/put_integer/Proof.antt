@@ -37,29 +37,23 @@ plus-text c =
 
 returns : tie.Need-returns-then-z-lt0
 returns c =
-    let d = c.before.before in
-    let s = d.before.before.before.before in
-    let t = s.before.before.before in
-    let a = t.before.before.before.args in
+    let t = c.before.before.before.before.before.before.before.before.before.before in
     let p =
     put_as (minus-text t)
-    (put-more (natural t.before.magnitude-m.result)
-    (put-more (45 ∷ []) (put-none a.out.now a.at (omega arith) (omega arith)) s.put_bytes-first.ensures.0 s.put_bytes-first.ensures.1)
-    d.put_natural.ensures.0 d.put_natural.ensures.1) in
+    (put-more (natural c.magnitude-m.result)
+    (put-more (45 ∷ []) (put-none c.args.out.now c.args.at (omega arith) (omega arith)) c.put_bytes-first.ensures.0 c.put_bytes-first.ensures.1)
+    c.put_natural.ensures.0 c.put_natural.ensures.1) in
     (p.place, p.holds)
 
 returns-2 : tie.Need-returns
 returns-2 c =
-    let d = c.before.before in
-    let t = d.before.before in
-    let a = t.before.before.before.args in
-    let e = plus-text t in (
-      d.put_natural-2.ensures.0 ∙ ap (λ (u : List ℕ). after a.at (length u)) e,
-      d.put_natural-2.ensures.1 ∙ ap (splice a.out.now a.at) e,
+    let e = plus-text c.before.before.before.before in (
+      c.put_natural-2.ensures.0 ∙ ap (λ (u : List ℕ). after c.args.at (length u)) e,
+      c.put_natural-2.ensures.1 ∙ ap (splice c.args.out.now c.args.at) e,
     )
 
 pub put_integer_spec : {M : Type 1} → statement M
 put_integer_spec =
     tie.close
-    (tie.spec (λ c κs. search rules) (λ c. search rules) (λ c κs. search rules) (λ c κs. search rules) (λ c. search rules) returns
-    (λ c κs. search rules) (λ c. search rules) returns-2)
+    (tie.spec (λ c κs. search rules) (λ c κs. search rules) (λ c κs. search rules) (λ c. search rules) returns (λ c κs. search rules)
+    (λ c. search rules) returns-2)

@@ -10,16 +10,12 @@ use Rattle.text.proofs.put_next.Tie as tie
 
 returns : tie.Need-returns
 returns c =
-    let n = c.before.before in
-    let s = n.before.before.before.before in
-    let b = s.before.before.before.before in
-    let a = b.args in
     let p =
-    put_same integer (to_z-of_z b.ranges.z)
-    (put-more (32 ∷ []) (put-none a.out.now a.at (omega arith) (omega arith)) s.put_bytes-first.ensures.0 s.put_bytes-first.ensures.1)
-    n.put_integer.ensures.0 n.put_integer.ensures.1 in
+    put_same integer (to_z-of_z c.ranges.z)
+    (put-more (32 ∷ []) (put-none c.args.out.now c.args.at (omega arith) (omega arith)) c.put_bytes-first.ensures.0 c.put_bytes-first.ensures.1)
+    c.put_integer.ensures.0 c.put_integer.ensures.1 in
     (p.place, p.holds)
 
 pub put_next_spec : {M : Type 1} → statement M
 put_next_spec =
-    tie.close (tie.spec (λ c. search rules) (λ c κs. search rules) (λ c κs. search rules) (λ c. search rules) returns)
+    tie.close (tie.spec (λ c. search rules) (λ c. search rules) (λ c. search rules) returns)

@@ -34,7 +34,7 @@ returns-2 c =
     whole c.before.before.before.before.before.before.before.before.before.before.args.s.now site.result (to_z w64 (of_z w64 epoch.result))
     c.before.before.before.vector-at.result c.before.before.vector-at2.result c.before.vector-at3.result c.vector-at4.result
     (site.ensures ∙ site-long _ (omega arith))
-    (answered epoch.result epoch.type-inv ∙ epoch.ensures)
+    (answered epoch.result epoch.type_inv ∙ epoch.ensures)
     c.before.before.before.vector-at.ensures
     c.before.before.vector-at2.ensures
     c.before.vector-at3.ensures

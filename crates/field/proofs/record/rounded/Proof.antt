@@ -24,9 +24,9 @@ returns c =
     let first = second.before.before in
     let a = first.before.before.args in
     vec≡
-    (came a.b a.v.x first.near.result (record { sfits = first.before.struct_told.given.0.1 }) (record { sfits = first.near.type-inv }) first.near.ensures)
-    (came a.b a.v.y second.near2.result (record { sfits = second.before.struct-told2.given.1.0.1 }) (record { sfits = second.near2.type-inv }) second.near2.ensures)
-    (came a.b a.v.z third.near3.result (record { sfits = third.before.struct-told3.given.1.1.0.1 }) (record { sfits = third.near3.type-inv }) third.near3.ensures)
+    (came a.b a.v.x first.near.result (record { sfits = first.before.struct_told.given.0.1 }) (record { sfits = first.near.type_inv }) first.near.ensures)
+    (came a.b a.v.y second.near2.result (record { sfits = second.before.struct-told2.given.1.0.1 }) (record { sfits = second.near2.type_inv }) second.near2.ensures)
+    (came a.b a.v.z third.near3.result (record { sfits = third.before.struct-told3.given.1.1.0.1 }) (record { sfits = third.near3.type_inv }) third.near3.ensures)
 
 pub rounded-spec : {M : Type 1} → statement M
 rounded-spec = tie.close (tie.spec (λ c κs. search rules) (λ c κs. search rules) (λ c κs. search rules) returns)

@@ -32,8 +32,8 @@ returns : tie.Need-returns
 unfolding straight
 returns c = (at (sum c) (lit< tt)).told
 
-pub straight-spec : {M : Type 1} → statement M
-straight-spec =
+pub straight_spec : {M : Type 1} → statement M
+straight_spec =
     tie.close
     (tie.spec (λ c. fit (units c) (lit< tt)) (λ c. fit (shift c) (lit< tt)) (λ c. fit (kd c) (lit< tt)) (λ c. fit (kdm c) (lit< tt)) (λ c κs. search rules)
     (λ c. fit (sum c) (lit< tt)) returns)

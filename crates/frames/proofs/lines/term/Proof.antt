@@ -37,7 +37,7 @@ told : (c : tie.After-wide) → let s = c.before in Va (rd c.wide.result) (wide 
 told c =
     let s = c.before in
     record {
-      told = answered c.wide.result c.wide.type-inv ∙ c.wide.ensures ∙ rw ((vk s).told, (at (va s) (lit< tt)).told, (vs s).told);
+      told = answered c.wide.result c.wide.type_inv ∙ c.wide.ensures ∙ rw ((vk s).told, (at (va s) (lit< tt)).told, (vs s).told);
       small = wide-bound s.args.k (s.args.d *ℤ s.args.m +ℤ pos 4 *ℤ s.args.s) s.args.s (vk s).small (va s).small (vs s).small;
     }
 
@@ -49,8 +49,8 @@ returns c =
     let s = c.before in
     (at (sum c) (lit< tt)).told ∙ wide_is s.args.k s.args.t s.args.d s.args.m s.args.s
 
-pub term-spec : {M : Type 1} → statement M
-term-spec =
+pub term_spec : {M : Type 1} → statement M
+term_spec =
     tie.close
     (tie.spec (λ c. fit (units c) (lit< tt)) (λ c. fit (shift c) (lit< tt)) (λ c. fit (dm c) (lit< tt)) (λ c. fit (four c) (lit< tt)) (λ c. fit (va c) (lit< tt)) wide-requires
     (λ c. fit (sum c) (lit< tt)) returns)

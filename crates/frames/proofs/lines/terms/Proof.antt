@@ -54,13 +54,13 @@ module _
 straight-requires : tie.Need-straight-requires
 straight-requires c κs = let s = c.before.before.before.before.before in asks s.args.k s.args.p.t.x s.args.p.d s.args.m.x s.requires.0 s.requires.1.0.t.x s.requires.1.0.d s.requires.1.1.x
 
-straight-requires-2 : tie.Need-straight-requires-2
+straight-requires-2 : tie.Need-straight-requires-then-sized
 straight-requires-2 c κs = let s = c.before.before.before.before.before.before.before.before.before in asks s.args.k s.args.p.t.y s.args.p.d s.args.m.y s.requires.0 s.requires.1.0.t.y s.requires.1.0.d s.requires.1.1.y
 
-straight-requires-3 : tie.Need-straight-requires-3
+straight-requires-3 : tie.Need-straight-requires-then-sized-2
 straight-requires-3 c κs = let s = c.before.before.before.before.before.before.before.before.before.before.before.before.before in asks s.args.k s.args.p.t.z s.args.p.d s.args.m.z s.requires.0 s.requires.1.0.t.z s.requires.1.0.d s.requires.1.1.z
 
-returns : tie.Need-returns
+returns : tie.Need-returns-then-sized
 returns c =
     let c2 = c.before.before.before.before in
     let c1 = c2.before.before.before.before in
@@ -72,36 +72,36 @@ returns c =
     let l = s.requires.1.0 in
     let w = s.requires.1.1 in
     vec≡
-    (straight-told k p.t.x p.d m.x s.requires.0 l.t.x l.d w.x c1.straight.result c1.straight.type-inv c1.straight.ensures)
-    (straight-told k p.t.y p.d m.y s.requires.0 l.t.y l.d w.y c2.straight2.result c2.straight2.type-inv c2.straight2.ensures)
-    (straight-told k p.t.z p.d m.z s.requires.0 l.t.z l.d w.z c.straight3.result c.straight3.type-inv c.straight3.ensures)
-    ∙ sym (terms-straight k p m (still p.r (sym i.before.sized.ensures ∙ i.if1.true)))
+    (straight-told k p.t.x p.d m.x s.requires.0 l.t.x l.d w.x c1.straight.result c1.straight.type_inv c1.straight.ensures)
+    (straight-told k p.t.y p.d m.y s.requires.0 l.t.y l.d w.y c2.straight-then-sized.result c2.straight-then-sized.type_inv c2.straight-then-sized.ensures)
+    (straight-told k p.t.z p.d m.z s.requires.0 l.t.z l.d w.z c.straight-then-sized-2.result c.straight-then-sized-2.type_inv c.straight-then-sized-2.ensures)
+    ∙ sym (terms-straight k p m (still p.r (sym i.before.sized.ensures ∙ i.if-sized.true)))
 
 -- ---- with it
 
-abbrev start : tie.After-turned → tie.Start
+abbrev start : tie.After-turned-s → tie.Start
 start a = a.before.before.before
 
-small : (a : tie.After-turned) → Within 6400000000 a.turned.result
-small a = subst⁻¹ (λ (v : Vec3). Within 6400000000 v) a.turned.ensures (turned-within (start a).requires.1.0.r (start a).requires.1.1)
+small : (a : tie.After-turned-s) → Within 6400000000 a.turned-s.result
+small a = subst⁻¹ (λ (v : Vec3). Within 6400000000 v) a.turned-s.ensures (turned-within (start a).requires.1.0.r (start a).requires.1.1)
 
 term-requires : tie.Need-term-requires
 term-requires c κs =
     let a = c.before.before.before.before in
     let s = start a in
-    asks_turned s.args.k s.args.p.t.x s.args.p.d s.args.m.x s.pre.0 s.pre.1.0.t.x s.pre.1.0.d s.pre.1.1.x a.turned.result.x (small a).x
+    asks_turned s.args.k s.args.p.t.x s.args.p.d s.args.m.x s.pre.0 s.pre.1.0.t.x s.pre.1.0.d s.pre.1.1.x a.turned-s.result.x (small a).x
 
 term-requires-2 : tie.Need-term-requires-2
 term-requires-2 c κs =
     let a = c.before.before.before.before.before.before.before.before.before in
     let s = start a in
-    asks_turned s.args.k s.args.p.t.y s.args.p.d s.args.m.y s.pre.0 s.pre.1.0.t.y s.pre.1.0.d s.pre.1.1.y a.turned.result.y (small a).y
+    asks_turned s.args.k s.args.p.t.y s.args.p.d s.args.m.y s.pre.0 s.pre.1.0.t.y s.pre.1.0.d s.pre.1.1.y a.turned-s.result.y (small a).y
 
 term-requires-3 : tie.Need-term-requires-3
 term-requires-3 c κs =
     let a = c.before.before.before.before.before.before.before.before.before.before.before.before.before.before in
     let s = start a in
-    asks_turned s.args.k s.args.p.t.z s.args.p.d s.args.m.z s.pre.0 s.pre.1.0.t.z s.pre.1.0.d s.pre.1.1.z a.turned.result.z (small a).z
+    asks_turned s.args.k s.args.p.t.z s.args.p.d s.args.m.z s.pre.0 s.pre.1.0.t.z s.pre.1.0.d s.pre.1.1.z a.turned-s.result.z (small a).z
 
 -- with what came back for the turned mark
 terms-are : (k : ℤ) (p : Line) (m s : Vec3) {v : Vec3} → s ≡ turned p.r m
@@ -109,7 +109,7 @@ terms-are : (k : ℤ) (p : Line) (m s : Vec3) {v : Vec3} → s ≡ turned p.r m
 unfolding terms
 terms-are k p m s q e = rw (← q) e
 
-returns-2 : tie.Need-returns-2
+returns-2 : tie.Need-returns
 returns-2 c =
     let c2 = c.before.before.before.before.before in
     let c1 = c2.before.before.before.before.before in
@@ -118,17 +118,17 @@ returns-2 c =
     let k = s.args.k in
     let p = s.args.p in
     let m = s.args.m in
-    let v = a.turned.result in
+    let v = a.turned-s.result in
     let l = s.pre.1.0 in
     let w = s.pre.1.1 in
-    terms-are k p m v a.turned.ensures
+    terms-are k p m v a.turned-s.ensures
     (vec≡
-    (term_told k p.t.x p.d m.x s.pre.0 l.t.x l.d w.x v.x (small a).x c1.term.result c1.term.type-inv c1.term.ensures)
-    (term_told k p.t.y p.d m.y s.pre.0 l.t.y l.d w.y v.y (small a).y c2.term2.result c2.term2.type-inv c2.term2.ensures)
-    (term_told k p.t.z p.d m.z s.pre.0 l.t.z l.d w.z v.z (small a).z c.term3.result c.term3.type-inv c.term3.ensures))
+    (term_told k p.t.x p.d m.x s.pre.0 l.t.x l.d w.x v.x (small a).x c1.term.result c1.term.type_inv c1.term.ensures)
+    (term_told k p.t.y p.d m.y s.pre.0 l.t.y l.d w.y v.y (small a).y c2.term-2.result c2.term-2.type_inv c2.term-2.ensures)
+    (term_told k p.t.z p.d m.z s.pre.0 l.t.z l.d w.z v.z (small a).z c.term-3.result c.term-3.type_inv c.term-3.ensures))
 
-pub terms-spec : {M : Type 1} → statement M
-terms-spec =
+pub terms_spec : {M : Type 1} → statement M
+terms_spec =
     tie.close
     (tie.spec (λ c κs. search rules) straight-requires straight-requires-2 straight-requires-3 returns (λ c κs. search rules) term-requires term-requires-2 term-requires-3
     returns-2)

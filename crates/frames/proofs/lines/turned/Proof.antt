@@ -28,8 +28,8 @@ returns c =
     (at (difference r.z m.x r.x m.z h.z w.x h.x w.z) (lit< tt)).told
     (at (difference r.x m.y r.y m.x h.x w.y h.y w.x) (lit< tt)).told
 
-pub turned-spec : {M : Type 1} → statement M
-turned-spec =
+pub turned_spec : {M : Type 1} → statement M
+turned_spec =
     tie.close
     (tie.spec
     (λ c. let s = c.before.before.before.before in fit (product s.args.r.y s.args.m.z s.requires.0.y s.requires.1.z) (lit< tt))

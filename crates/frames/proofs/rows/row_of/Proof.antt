@@ -45,23 +45,23 @@ other n h = elim (outside n last_frame h) [
   | inr l ↦ past rows n l
 ]
 
-pub row-of-spec : {M : Type 1} → statement M
+pub row_of_spec : {M : Type 1} → statement M
 unfolding row_of
-row-of-spec =
+row_of_spec =
     tie.close
     (tie.spec (λ c κs. tt) (λ c κs. tt) (λ c κs. tt) (λ c κs. tt) (λ c κs. tt) (λ c κs. tt)
     (λ c κs. tt) (λ c κs. tt) (λ c κs. tt) (λ c κs. tt) (λ c κs. tt) (λ c κs. tt)
     (λ c κs. tt) (λ c κs. tt) (λ c κs. tt) (λ c κs. tt) (λ c κs. tt) (λ c κs. tt)
     (λ c κs. tt) (λ c κs. tt) (λ c κs. tt) (λ c κs. tt) (λ c κs. tt) (λ c κs. tt)
-    (λ c. lines _ 1 c.before.before.match.keys1 c.before.printed.ensures c.printed2.ensures refl)
-    (λ c. lines _ 2 c.before.before.match.keys2 c.before.printed3.ensures c.printed4.ensures refl)
-    (λ c. lines _ 3 c.before.before.match.keys3 c.before.printed5.ensures c.printed6.ensures refl)
-    (λ c. lines _ 4 c.before.before.match.keys4 c.before.printed7.ensures c.printed8.ensures refl)
-    (λ c. lines _ 5 c.before.before.match.keys5 c.before.printed9.ensures c.printed10.ensures refl)
-    (λ c. lines _ 6 c.before.before.match.keys6 c.before.printed11.ensures c.printed12.ensures refl)
-    (λ c. lines _ 7 c.before.before.match.keys7 c.before.printed13.ensures c.printed14.ensures refl)
-    (λ c. lines _ 8 c.before.before.match.keys8 c.before.printed15.ensures c.printed16.ensures refl)
-    (λ c. lines _ 9 c.before.before.match.keys9 c.before.printed17.ensures c.printed18.ensures refl)
-    (λ c. lines _ 10 c.before.before.match.keys10 c.before.printed19.ensures c.printed20.ensures refl)
-    (λ c. lines _ 11 c.before.before.match.keys11 c.before.printed21.ensures c.printed22.ensures refl)
-    (λ c. let code = c.before.before.before.args.code in lines code code refl c.before.printed23.ensures c.printed24.ensures (other code c.before.before.match.rest)))
+    (λ c. lines _ 1 c.before.before.in_default.keys1 c.before.printed.ensures c.printed-in-1.ensures refl)
+    (λ c. lines _ 2 c.before.before.in_default.keys2 c.before.printed-in-2.ensures c.printed-in-2-2.ensures refl)
+    (λ c. lines _ 3 c.before.before.in_default.keys3 c.before.printed-in-3.ensures c.printed-in-3-2.ensures refl)
+    (λ c. lines _ 4 c.before.before.in_default.keys4 c.before.printed-in-4.ensures c.printed-in-4-2.ensures refl)
+    (λ c. lines _ 5 c.before.before.in_default.keys5 c.before.printed-in-5.ensures c.printed-in-5-2.ensures refl)
+    (λ c. lines _ 6 c.before.before.in_default.keys6 c.before.printed-in-6.ensures c.printed-in-6-2.ensures refl)
+    (λ c. lines _ 7 c.before.before.in_default.keys7 c.before.printed-in-7.ensures c.printed-in-7-2.ensures refl)
+    (λ c. lines _ 8 c.before.before.in_default.keys8 c.before.printed-in-8.ensures c.printed-in-8-2.ensures refl)
+    (λ c. lines _ 9 c.before.before.in_default.keys9 c.before.printed-in-9.ensures c.printed-in-9-2.ensures refl)
+    (λ c. lines _ 10 c.before.before.in_default.keys10 c.before.printed-in-10.ensures c.printed-in-10-2.ensures refl)
+    (λ c. lines _ 11 c.before.before.in_default.keys11 c.before.printed-in-11.ensures c.printed-in-11-2.ensures refl)
+    (λ c. let code = c.before.before.before.args.code in lines code code refl c.before.printed-in_default.ensures c.printed-in_default-2.ensures (other code c.before.before.in_default.rest)))

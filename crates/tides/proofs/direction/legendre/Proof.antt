@@ -24,7 +24,7 @@ named s z e = ap (λ (p : ℤ). near p 2) e
 
 returns : tie.Need-returns
 returns c =
-    answered c.near.result c.near.type-inv
+    answered c.near.result c.near.type_inv
     ∙ c.near.ensures
     ∙ named c.before.args.s _ (at (less c.before) (lit< tt)).told
 

@@ -23,7 +23,7 @@ rounded x y z e = ap (λ (p : ℤ). near p 1073741824) e
 
 returns : tie.Need-returns
 returns c =
-    answered c.near.result c.near.type-inv
+    answered c.near.result c.near.type_inv
     ∙ c.near.ensures
     ∙ rounded c.before.args.x c.before.args.y _ (product c.before.args.x c.before.args.y c.before.ranges.x c.before.ranges.y c.before.requires)
 

@@ -22,7 +22,7 @@ named l m z e = ap (λ (p : ℤ). near p l) e
 
 returns : tie.Need-returns
 returns c =
-    answered c.near.result c.near.type-inv
+    answered c.near.result c.near.type_inv
     ∙ c.near.ensures
     ∙ named c.before.args.l c.before.args.m _ (at (product c.before) (lit< tt)).told
 

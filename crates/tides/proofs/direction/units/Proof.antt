@@ -31,9 +31,9 @@ returns c =
     let v = s.args.v in
     let l = s.args.l in
     three _ _ _ (unit l v.x) (unit l v.y) (unit l v.z)
-    (came l v.x c.before.before.before.before.unit.result (record { sfits = c.before.before.before.before.before.struct_told.given.0.1 }) (record { sfits = c.before.before.before.before.unit.type-inv }) c.before.before.before.before.unit.ensures)
-    (came l v.y c.before.before.unit2.result (record { sfits = c.before.before.before.struct-told2.given.1.0.1 }) (record { sfits = c.before.before.unit2.type-inv }) c.before.before.unit2.ensures)
-    (came l v.z c.unit3.result (record { sfits = c.before.struct-told3.given.1.1.0.1 }) (record { sfits = c.unit3.type-inv }) c.unit3.ensures)
+    (came l v.x c.before.before.before.before.unit.result (record { sfits = c.before.before.before.before.before.struct_told.given.0.1 }) (record { sfits = c.before.before.before.before.unit.type_inv }) c.before.before.before.before.unit.ensures)
+    (came l v.y c.before.before.unit2.result (record { sfits = c.before.before.before.struct-told2.given.1.0.1 }) (record { sfits = c.before.before.unit2.type_inv }) c.before.before.unit2.ensures)
+    (came l v.z c.unit3.result (record { sfits = c.before.struct-told3.given.1.1.0.1 }) (record { sfits = c.unit3.type_inv }) c.unit3.ensures)
 
 pub units-spec : {M : Type 1} → statement M
 units-spec =

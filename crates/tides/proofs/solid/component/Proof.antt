@@ -64,7 +64,7 @@ named rho t c u d z e = ap (λ (s : ℤ). near s 1073741824) e
 returns : tie.Need-returns
 returns c =
     let s = c.before.before in
-    answered c.near.result c.near.type-inv
+    answered c.near.result c.near.type_inv
     ∙ c.near.ensures
     ∙ named s.args.rho s.args.t s.args.c s.args.u s.args.d _ (at (whole c.before) (lit< tt)).told
 

@@ -76,7 +76,7 @@ add-near-2 c =
 returns : tie.Need-returns
 returns c =
     let s = c.before.before.before.before.before.before.before.before.before.before.before.before.before in
-    answered c.near.result c.near.type-inv
+    answered c.near.result c.near.type_inv
     ∙ c.near.ensures
     ∙ named s.args.u s.args.d _ (at (three s.args.u s.args.d s.requires.0 s.requires.1) (lit< tt)).told
 

@@ -77,9 +77,9 @@ returns c =
     let y = c.before.before.before.component2 in
     let z = c.component3 in
     vec≡
-    (given_back s x.result s.args.u.x b.d.x x.type-inv x.ensures (within-u s).x (stood s).d.x)
-    (given_back s y.result s.args.u.y b.d.y y.type-inv y.ensures (within-u s).y (stood s).d.y)
-    (given_back s z.result s.args.u.z b.d.z z.type-inv z.ensures (within-u s).z (stood s).d.z)
+    (given_back s x.result s.args.u.x b.d.x x.type_inv x.ensures (within-u s).x (stood s).d.x)
+    (given_back s y.result s.args.u.y b.d.y y.type_inv y.ensures (within-u s).y (stood s).d.y)
+    (given_back s z.result s.args.u.z b.d.z z.type_inv z.ensures (within-u s).z (stood s).d.z)
 
 pub displaced-spec : {M : Type 1} → statement M
 displaced-spec = tie.close (tie.spec component-requires component-requires-2 component-requires-3 returns)

@@ -68,9 +68,9 @@ returns c =
     let t = n.before in
     let s = t.before in
     named s.args.r0 _ _ s.args.u s.args.s.at c.before.units.result t.root.result s.requires.1.0
-    (answered n.near.result n.near.type-inv ∙ n.near.ensures ∙ ap (λ (z : ℤ). near z t.root.result) (at (product s) (product-fits s)).told)
+    (answered n.near.result n.near.type_inv ∙ n.near.ensures ∙ ap (λ (z : ℤ). near z t.root.result) (at (product s) (product-fits s)).told)
     c.before.units.ensures
-    (answered c.cosine.result c.cosine.type-inv ∙ c.cosine.ensures)
+    (answered c.cosine.result c.cosine.type_inv ∙ c.cosine.ensures)
     ∙ ap (standing (nat_abs s.args.r0) s.args.u s.args.s.at) (sym (far t))
 
 pub stand-spec : {M : Type 1} → statement M
