@@ -64,9 +64,9 @@ none-fits : row_fits itrf2008 ≡ true
 unfolding sized
 none-fits = refl
 
-row_fits : (code : ℕ) → row_fits (row_of code) ≡ true
+row_fits_lem : (code : ℕ) → row_fits (row_of code) ≡ true
 unfolding row_of
-row_fits code = at_place rows code table_fits none-fits
+row_fits_lem code = at_place rows code table_fits none-fits
 
 -- ---- what a line gives, at a mark of at most 6,400,000 m a component
 
@@ -104,7 +104,7 @@ module _ (k top : ℕ) (p : Line) (e : line_fits k top p ≡ true) where
 
 module _ (g : ℕ) where
   two : (line_fits 1461 most_a (row_of g).at ≡ true) × (line_fits 1 most_b (row_of g).rates ≡ true)
-  two = both (line_fits 1461 most_a (row_of g).at) (line_fits 1 most_b (row_of g).rates) (row_fits g)
+  two = both (line_fits 1461 most_a (row_of g).at) (line_fits 1 most_b (row_of g).rates) (row_fits_lem g)
 
   pub at-line : LineWithin (row_of g).at
   at-line = line-within 1461 most_a (row_of g).at two.0

@@ -30,34 +30,31 @@ b-is g m r q e = e ∙ terms-drift r.rates m ∙ rw q
 
 -- ---- what is known once the row is there
 
-mark-in : (c : tie.After-row_of-r) → marked c.before.before.before.before.args.m ≡ true
-mark-in c = mark-accepted c.before.before.before.before.args.m c.before.before.check_mark.result c.before.before.check_mark.ensures c.before.if-check_mark-ne0.false
+mark-in : (c : tie.After-row_of-r) → marked c.args.m ≡ true
+mark-in c = mark-accepted c.args.m c.check_mark.result c.check_mark.ensures c.if-check_mark-ne0.false
 
-wide : (c : tie.After-row_of-r) → Within 6400000 c.before.before.before.before.args.m
-wide c = accepted-within c.before.before.before.before.args.m (mark-in c)
+wide : (c : tie.After-row_of-r) → Within 6400000 c.args.m
+wide c = accepted-within c.args.m (mark-in c)
 
 returns-2 : tie.Need-returns-then-check_mark-ne0
 returns-2 c =
-    let s = c.before.before.before in
-    terms-unmarked s.args.frame s.args.m (frame-known s.args.frame c.before.before.if-frame-gt-LAST_FRAME.false)
-    (mark-refused s.args.m c.before.check_mark.result c.before.check_mark.ensures c.if-check_mark-ne0.true)
+    terms-unmarked c.args.frame c.args.m (frame-known c.args.frame c.if-frame-gt-LAST_FRAME.false)
+    (mark-refused c.args.m c.check_mark.result c.check_mark.ensures c.if-check_mark-ne0.true)
 
 terms-requires : tie.Need-terms-requires
-terms-requires c κs = (lit≤ tt, (rw c.row_of-r.ensures (at-line c.before.before.before.before.args.frame), wide c))
+terms-requires c κs = (lit≤ tt, (rw c.row_of-r.ensures (at-line c.args.frame), wide c.before))
 
 terms-requires-2 : tie.Need-terms-requires-2
-terms-requires-2 c κs = let k = c.before in (lit≤ tt, (rw k.row_of-r.ensures (rates-line k.before.before.before.before.args.frame), wide k))
+terms-requires-2 c κs = (lit≤ tt, (rw c.row_of-r.ensures (rates-line c.args.frame), wide c.before.before.before))
 
 returns-3 : tie.Need-returns
 returns-3 c =
-    let k = c.before.before in
-    let s = k.before.before.before.before in
-    terms-taken s.args.frame s.args.m c.before.terms.result c.terms-2.result (frame-known s.args.frame k.before.before.before.if-frame-gt-LAST_FRAME.false) (mark-in k)
-    (a-is s.args.frame s.args.m k.row_of-r.result k.row_of-r.ensures c.before.terms.ensures)
-    (b-is s.args.frame s.args.m k.row_of-r.result k.row_of-r.ensures c.terms-2.ensures)
+    terms-taken c.args.frame c.args.m c.terms.result c.terms-2.result (frame-known c.args.frame c.if-frame-gt-LAST_FRAME.false) (mark-in c.before.before.before.before)
+    (a-is c.args.frame c.args.m c.row_of-r.result c.row_of-r.ensures c.terms.ensures)
+    (b-is c.args.frame c.args.m c.row_of-r.result c.row_of-r.ensures c.terms-2.ensures)
 
 pub frame_terms_spec : {M : Type 1} → statement M
 frame_terms_spec =
     tie.close
-    (tie.spec (λ c. terms-unknown c.before.args.frame c.before.args.m (frame-unknown c.before.args.frame c.if-frame-gt-LAST_FRAME.true))
+    (tie.spec (λ c. terms-unknown c.args.frame c.args.m (frame-unknown c.args.frame c.if-frame-gt-LAST_FRAME.true))
     (λ c κs. search rules) returns-2 (λ c κs. search rules) terms-requires terms-requires-2 returns-3)

@@ -25,7 +25,7 @@ kd s = v* (vk s) (given s.ranges.d s.requires.1.1.0)
 kdm : (s : tie.Start) → Va (rd (rd s.args.k *ℤ rd s.args.d) *ℤ rd s.args.m) (s.args.k *ℤ s.args.d *ℤ s.args.m) 93504000000000
 kdm s = v* (at (kd s) (lit< tt)) (given s.ranges.m s.requires.1.1.1)
 
-sum : (c : tie.After-near) → let s = c.before in Va (rd (rd (pos 100 *ℤ rd s.args.k) *ℤ rd s.args.t) +ℤ rd c.near.result) (pos 100 *ℤ s.args.k *ℤ s.args.t +ℤ near (s.args.k *ℤ s.args.d *ℤ s.args.m) 100000) 2396040000
+sum : (c : tie.After-near) → Va (rd (rd (pos 100 *ℤ rd c.args.k) *ℤ rd c.args.t) +ℤ rd c.near.result) (pos 100 *ℤ c.args.k *ℤ c.args.t +ℤ near (c.args.k *ℤ c.args.d *ℤ c.args.m) 100000) 2396040000
 sum c = v+ (at (shift c.before) (lit< tt)) (vnear 100000 935040000 c.near.ensures (at (kdm c.before) (lit< tt)) (lit≤ tt) (lit< tt))
 
 returns : tie.Need-returns

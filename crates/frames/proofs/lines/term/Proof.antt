@@ -33,21 +33,19 @@ wide-requires : tie.Need-wide-requires
 wide-requires s κs = rw ((vk s).told, (at (va s) (lit< tt)).told, (vs s).told) ((vk s).small, ((va s).small, (vs s).small))
 
 -- what came back for the fraction
-told : (c : tie.After-wide) → let s = c.before in Va (rd c.wide.result) (wide s.args.k (s.args.d *ℤ s.args.m +ℤ pos 4 *ℤ s.args.s) s.args.s) 1388360185
+told : (c : tie.After-wide) → Va (rd c.wide.result) (wide c.args.k (c.args.d *ℤ c.args.m +ℤ pos 4 *ℤ c.args.s) c.args.s) 1388360185
 told c =
-    let s = c.before in
     record {
-      told = answered c.wide.result c.wide.type_inv ∙ c.wide.ensures ∙ rw ((vk s).told, (at (va s) (lit< tt)).told, (vs s).told);
-      small = wide-bound s.args.k (s.args.d *ℤ s.args.m +ℤ pos 4 *ℤ s.args.s) s.args.s (vk s).small (va s).small (vs s).small;
+      told = answered c.wide.result c.wide.type_inv ∙ c.wide.ensures ∙ rw ((vk c.before).told, (at (va c.before) (lit< tt)).told, (vs c.before).told);
+      small = wide-bound c.args.k (c.args.d *ℤ c.args.m +ℤ pos 4 *ℤ c.args.s) c.args.s (vk c.before).small (va c.before).small (vs c.before).small;
     }
 
-sum : (c : tie.After-wide) → let s = c.before in Va (rd (rd (pos 100 *ℤ rd s.args.k) *ℤ rd s.args.t) +ℤ rd c.wide.result) (pos 100 *ℤ s.args.k *ℤ s.args.t +ℤ wide s.args.k (s.args.d *ℤ s.args.m +ℤ pos 4 *ℤ s.args.s) s.args.s) 2849360185
+sum : (c : tie.After-wide) → Va (rd (rd (pos 100 *ℤ rd c.args.k) *ℤ rd c.args.t) +ℤ rd c.wide.result) (pos 100 *ℤ c.args.k *ℤ c.args.t +ℤ wide c.args.k (c.args.d *ℤ c.args.m +ℤ pos 4 *ℤ c.args.s) c.args.s) 2849360185
 sum c = v+ (at (shift c.before) (lit< tt)) (told c)
 
 returns : tie.Need-returns
 returns c =
-    let s = c.before in
-    (at (sum c) (lit< tt)).told ∙ wide_is s.args.k s.args.t s.args.d s.args.m s.args.s
+    (at (sum c) (lit< tt)).told ∙ wide_is c.args.k c.args.t c.args.d c.args.m c.args.s
 
 pub term_spec : {M : Type 1} → statement M
 term_spec =

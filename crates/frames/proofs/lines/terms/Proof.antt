@@ -52,56 +52,43 @@ module _
 -- ---- without rotation
 
 straight-requires : tie.Need-straight-requires
-straight-requires c κs = let s = c.before.before.before.before.before in asks s.args.k s.args.p.t.x s.args.p.d s.args.m.x s.requires.0 s.requires.1.0.t.x s.requires.1.0.d s.requires.1.1.x
+straight-requires c κs = asks c.args.k c.args.p.t.x c.args.p.d c.args.m.x c.requires.0 c.requires.1.0.t.x c.requires.1.0.d c.requires.1.1.x
 
 straight-requires-2 : tie.Need-straight-requires-then-sized
-straight-requires-2 c κs = let s = c.before.before.before.before.before.before.before.before.before in asks s.args.k s.args.p.t.y s.args.p.d s.args.m.y s.requires.0 s.requires.1.0.t.y s.requires.1.0.d s.requires.1.1.y
+straight-requires-2 c κs = asks c.args.k c.args.p.t.y c.args.p.d c.args.m.y c.requires.0 c.requires.1.0.t.y c.requires.1.0.d c.requires.1.1.y
 
 straight-requires-3 : tie.Need-straight-requires-then-sized-2
-straight-requires-3 c κs = let s = c.before.before.before.before.before.before.before.before.before.before.before.before.before in asks s.args.k s.args.p.t.z s.args.p.d s.args.m.z s.requires.0 s.requires.1.0.t.z s.requires.1.0.d s.requires.1.1.z
+straight-requires-3 c κs = asks c.args.k c.args.p.t.z c.args.p.d c.args.m.z c.requires.0 c.requires.1.0.t.z c.requires.1.0.d c.requires.1.1.z
 
 returns : tie.Need-returns-then-sized
 returns c =
-    let c2 = c.before.before.before.before in
-    let c1 = c2.before.before.before.before in
-    let i = c1.before.before.before.before in
-    let s = i.before.before in
-    let k = s.args.k in
-    let p = s.args.p in
-    let m = s.args.m in
-    let l = s.requires.1.0 in
-    let w = s.requires.1.1 in
+    let k = c.args.k in
+    let p = c.args.p in
+    let m = c.args.m in
+    let l = c.requires.1.0 in
+    let w = c.requires.1.1 in
     vec≡
-    (straight-told k p.t.x p.d m.x s.requires.0 l.t.x l.d w.x c1.straight.result c1.straight.type_inv c1.straight.ensures)
-    (straight-told k p.t.y p.d m.y s.requires.0 l.t.y l.d w.y c2.straight-then-sized.result c2.straight-then-sized.type_inv c2.straight-then-sized.ensures)
-    (straight-told k p.t.z p.d m.z s.requires.0 l.t.z l.d w.z c.straight-then-sized-2.result c.straight-then-sized-2.type_inv c.straight-then-sized-2.ensures)
-    ∙ sym (terms-straight k p m (still p.r (sym i.before.sized.ensures ∙ i.if-sized.true)))
+    (straight-told k p.t.x p.d m.x c.requires.0 l.t.x l.d w.x c.straight.result c.straight.type_inv c.straight.ensures)
+    (straight-told k p.t.y p.d m.y c.requires.0 l.t.y l.d w.y c.straight-then-sized.result c.straight-then-sized.type_inv c.straight-then-sized.ensures)
+    (straight-told k p.t.z p.d m.z c.requires.0 l.t.z l.d w.z c.straight-then-sized-2.result c.straight-then-sized-2.type_inv c.straight-then-sized-2.ensures)
+    ∙ sym (terms-straight k p m (still p.r (sym c.sized.ensures ∙ c.if-sized.true)))
 
 -- ---- with it
 
-abbrev start : tie.After-turned-s → tie.Start
-start a = a.before.before.before
-
 small : (a : tie.After-turned-s) → Within 6400000000 a.turned-s.result
-small a = subst⁻¹ (λ (v : Vec3). Within 6400000000 v) a.turned-s.ensures (turned-within (start a).requires.1.0.r (start a).requires.1.1)
+small a = subst⁻¹ (λ (v : Vec3). Within 6400000000 v) a.turned-s.ensures (turned-within a.requires.1.0.r a.requires.1.1)
 
 term-requires : tie.Need-term-requires
 term-requires c κs =
-    let a = c.before.before.before.before in
-    let s = start a in
-    asks_turned s.args.k s.args.p.t.x s.args.p.d s.args.m.x s.pre.0 s.pre.1.0.t.x s.pre.1.0.d s.pre.1.1.x a.turned-s.result.x (small a).x
+    asks_turned c.args.k c.args.p.t.x c.args.p.d c.args.m.x c.requires.0 c.requires.1.0.t.x c.requires.1.0.d c.requires.1.1.x c.turned-s.result.x (small c.before.before.before.before).x
 
 term-requires-2 : tie.Need-term-requires-2
 term-requires-2 c κs =
-    let a = c.before.before.before.before.before.before.before.before.before in
-    let s = start a in
-    asks_turned s.args.k s.args.p.t.y s.args.p.d s.args.m.y s.pre.0 s.pre.1.0.t.y s.pre.1.0.d s.pre.1.1.y a.turned-s.result.y (small a).y
+    asks_turned c.args.k c.args.p.t.y c.args.p.d c.args.m.y c.requires.0 c.requires.1.0.t.y c.requires.1.0.d c.requires.1.1.y c.turned-s.result.y (small c.before.before.before.before.before.before.before.before.before).y
 
 term-requires-3 : tie.Need-term-requires-3
 term-requires-3 c κs =
-    let a = c.before.before.before.before.before.before.before.before.before.before.before.before.before.before in
-    let s = start a in
-    asks_turned s.args.k s.args.p.t.z s.args.p.d s.args.m.z s.pre.0 s.pre.1.0.t.z s.pre.1.0.d s.pre.1.1.z a.turned-s.result.z (small a).z
+    asks_turned c.args.k c.args.p.t.z c.args.p.d c.args.m.z c.requires.0 c.requires.1.0.t.z c.requires.1.0.d c.requires.1.1.z c.turned-s.result.z (small c.before.before.before.before.before.before.before.before.before.before.before.before.before.before).z
 
 -- with what came back for the turned mark
 terms-are : (k : ℤ) (p : Line) (m s : Vec3) {v : Vec3} → s ≡ turned p.r m
@@ -111,21 +98,17 @@ terms-are k p m s q e = rw (← q) e
 
 returns-2 : tie.Need-returns
 returns-2 c =
-    let c2 = c.before.before.before.before.before in
-    let c1 = c2.before.before.before.before.before in
-    let a = c1.before.before.before.before.before in
-    let s = start a in
-    let k = s.args.k in
-    let p = s.args.p in
-    let m = s.args.m in
-    let v = a.turned-s.result in
-    let l = s.pre.1.0 in
-    let w = s.pre.1.1 in
-    terms-are k p m v a.turned-s.ensures
+    let k = c.args.k in
+    let p = c.args.p in
+    let m = c.args.m in
+    let v = c.turned-s.result in
+    let l = c.requires.1.0 in
+    let w = c.requires.1.1 in
+    terms-are k p m v c.turned-s.ensures
     (vec≡
-    (term_told k p.t.x p.d m.x s.pre.0 l.t.x l.d w.x v.x (small a).x c1.term.result c1.term.type_inv c1.term.ensures)
-    (term_told k p.t.y p.d m.y s.pre.0 l.t.y l.d w.y v.y (small a).y c2.term-2.result c2.term-2.type_inv c2.term-2.ensures)
-    (term_told k p.t.z p.d m.z s.pre.0 l.t.z l.d w.z v.z (small a).z c.term-3.result c.term-3.type_inv c.term-3.ensures))
+    (term_told k p.t.x p.d m.x c.requires.0 l.t.x l.d w.x v.x (small c.before.before.before.before.before.before.before.before.before.before.before.before.before.before.before).x c.term.result c.term.type_inv c.term.ensures)
+    (term_told k p.t.y p.d m.y c.requires.0 l.t.y l.d w.y v.y (small c.before.before.before.before.before.before.before.before.before.before.before.before.before.before.before).y c.term-2.result c.term-2.type_inv c.term-2.ensures)
+    (term_told k p.t.z p.d m.z c.requires.0 l.t.z l.d w.z v.z (small c.before.before.before.before.before.before.before.before.before.before.before.before.before.before.before).z c.term-3.result c.term-3.type_inv c.term-3.ensures))
 
 pub terms_spec : {M : Type 1} → statement M
 terms_spec =

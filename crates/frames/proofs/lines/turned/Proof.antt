@@ -18,11 +18,10 @@ module _ (a m b n : ℤ) (ha : nat_abs a ≤ 500) (hm : nat_abs m ≤ 6400000) (
 returns : tie.Need-returns
 unfolding turned
 returns c =
-    let s = c.before.before.before.before.before.before.before.before.before.before.before.before.before.before.before.before.before.before.before.before.before.before.before.before in
-    let r = s.args.r in
-    let m = s.args.m in
-    let h = s.requires.0 in
-    let w = s.requires.1 in
+    let r = c.args.r in
+    let m = c.args.m in
+    let h = c.requires.0 in
+    let w = c.requires.1 in
     vec≡
     (at (difference r.y m.z r.z m.y h.y w.z h.z w.y) (lit< tt)).told
     (at (difference r.z m.x r.x m.z h.z w.x h.x w.z) (lit< tt)).told
@@ -32,13 +31,13 @@ pub turned_spec : {M : Type 1} → statement M
 turned_spec =
     tie.close
     (tie.spec
-    (λ c. let s = c.before.before.before.before in fit (product s.args.r.y s.args.m.z s.requires.0.y s.requires.1.z) (lit< tt))
-    (λ c. let s = c.before.before.before.before.before.before.before.before in fit (product s.args.r.z s.args.m.y s.requires.0.z s.requires.1.y) (lit< tt))
-    (λ c. let s = c.before.before.before.before.before.before.before.before in fit (difference s.args.r.y s.args.m.z s.args.r.z s.args.m.y s.requires.0.y s.requires.1.z s.requires.0.z s.requires.1.y) (lit< tt))
-    (λ c. let s = c.before.before.before.before.before.before.before.before.before.before.before.before in fit (product s.args.r.z s.args.m.x s.requires.0.z s.requires.1.x) (lit< tt))
-    (λ c. let s = c.before.before.before.before.before.before.before.before.before.before.before.before.before.before.before.before in fit (product s.args.r.x s.args.m.z s.requires.0.x s.requires.1.z) (lit< tt))
-    (λ c. let s = c.before.before.before.before.before.before.before.before.before.before.before.before.before.before.before.before in fit (difference s.args.r.z s.args.m.x s.args.r.x s.args.m.z s.requires.0.z s.requires.1.x s.requires.0.x s.requires.1.z) (lit< tt))
-    (λ c. let s = c.before.before.before.before.before.before.before.before.before.before.before.before.before.before.before.before.before.before.before.before in fit (product s.args.r.x s.args.m.y s.requires.0.x s.requires.1.y) (lit< tt))
-    (λ c. let s = c.before.before.before.before.before.before.before.before.before.before.before.before.before.before.before.before.before.before.before.before.before.before.before.before in fit (product s.args.r.y s.args.m.x s.requires.0.y s.requires.1.x) (lit< tt))
-    (λ c. let s = c.before.before.before.before.before.before.before.before.before.before.before.before.before.before.before.before.before.before.before.before.before.before.before.before in fit (difference s.args.r.x s.args.m.y s.args.r.y s.args.m.x s.requires.0.x s.requires.1.y s.requires.0.y s.requires.1.x) (lit< tt))
+    (λ c. fit (product c.args.r.y c.args.m.z c.requires.0.y c.requires.1.z) (lit< tt))
+    (λ c. fit (product c.args.r.z c.args.m.y c.requires.0.z c.requires.1.y) (lit< tt))
+    (λ c. fit (difference c.args.r.y c.args.m.z c.args.r.z c.args.m.y c.requires.0.y c.requires.1.z c.requires.0.z c.requires.1.y) (lit< tt))
+    (λ c. fit (product c.args.r.z c.args.m.x c.requires.0.z c.requires.1.x) (lit< tt))
+    (λ c. fit (product c.args.r.x c.args.m.z c.requires.0.x c.requires.1.z) (lit< tt))
+    (λ c. fit (difference c.args.r.z c.args.m.x c.args.r.x c.args.m.z c.requires.0.z c.requires.1.x c.requires.0.x c.requires.1.z) (lit< tt))
+    (λ c. fit (product c.args.r.x c.args.m.y c.requires.0.x c.requires.1.y) (lit< tt))
+    (λ c. fit (product c.args.r.y c.args.m.x c.requires.0.y c.requires.1.x) (lit< tt))
+    (λ c. fit (difference c.args.r.x c.args.m.y c.args.r.y c.args.m.x c.requires.0.x c.requires.1.y c.requires.0.y c.requires.1.x) (lit< tt))
     returns)

@@ -36,6 +36,7 @@ outside n (suc k) h = elim (outside n k h.0) [
 -- past the table there is no row
 past : (rs : List Row) (n : ℕ) → length rs ≤ n → itrf2008 ≡ get_or rs n itrf2008
 past [] n h = refl
+past (r ∷ rs) zero h = elim h [ ]
 past (r ∷ rs) (suc n) h = past rs n (le_of_suc-le-suc h)
 
 other : (n : ℕ) → NoneTo n last_frame → itrf2008 ≡ row_of n
@@ -53,15 +54,15 @@ row_of_spec =
     (λ c κs. tt) (λ c κs. tt) (λ c κs. tt) (λ c κs. tt) (λ c κs. tt) (λ c κs. tt)
     (λ c κs. tt) (λ c κs. tt) (λ c κs. tt) (λ c κs. tt) (λ c κs. tt) (λ c κs. tt)
     (λ c κs. tt) (λ c κs. tt) (λ c κs. tt) (λ c κs. tt) (λ c κs. tt) (λ c κs. tt)
-    (λ c. lines _ 1 c.before.before.in_default.keys1 c.before.printed.ensures c.printed-in-1.ensures refl)
-    (λ c. lines _ 2 c.before.before.in_default.keys2 c.before.printed-in-2.ensures c.printed-in-2-2.ensures refl)
-    (λ c. lines _ 3 c.before.before.in_default.keys3 c.before.printed-in-3.ensures c.printed-in-3-2.ensures refl)
-    (λ c. lines _ 4 c.before.before.in_default.keys4 c.before.printed-in-4.ensures c.printed-in-4-2.ensures refl)
-    (λ c. lines _ 5 c.before.before.in_default.keys5 c.before.printed-in-5.ensures c.printed-in-5-2.ensures refl)
-    (λ c. lines _ 6 c.before.before.in_default.keys6 c.before.printed-in-6.ensures c.printed-in-6-2.ensures refl)
-    (λ c. lines _ 7 c.before.before.in_default.keys7 c.before.printed-in-7.ensures c.printed-in-7-2.ensures refl)
-    (λ c. lines _ 8 c.before.before.in_default.keys8 c.before.printed-in-8.ensures c.printed-in-8-2.ensures refl)
-    (λ c. lines _ 9 c.before.before.in_default.keys9 c.before.printed-in-9.ensures c.printed-in-9-2.ensures refl)
-    (λ c. lines _ 10 c.before.before.in_default.keys10 c.before.printed-in-10.ensures c.printed-in-10-2.ensures refl)
-    (λ c. lines _ 11 c.before.before.in_default.keys11 c.before.printed-in-11.ensures c.printed-in-11-2.ensures refl)
-    (λ c. let code = c.before.before.before.args.code in lines code code refl c.before.printed-in_default.ensures c.printed-in_default-2.ensures (other code c.before.before.in_default.rest)))
+    (λ c. lines _ 1 c.in-1.is c.printed.ensures c.printed-in-1.ensures refl)
+    (λ c. lines _ 2 c.in-2.is c.printed-in-2.ensures c.printed-in-2-2.ensures refl)
+    (λ c. lines _ 3 c.in-3.is c.printed-in-3.ensures c.printed-in-3-2.ensures refl)
+    (λ c. lines _ 4 c.in-4.is c.printed-in-4.ensures c.printed-in-4-2.ensures refl)
+    (λ c. lines _ 5 c.in-5.is c.printed-in-5.ensures c.printed-in-5-2.ensures refl)
+    (λ c. lines _ 6 c.in-6.is c.printed-in-6.ensures c.printed-in-6-2.ensures refl)
+    (λ c. lines _ 7 c.in-7.is c.printed-in-7.ensures c.printed-in-7-2.ensures refl)
+    (λ c. lines _ 8 c.in-8.is c.printed-in-8.ensures c.printed-in-8-2.ensures refl)
+    (λ c. lines _ 9 c.in-9.is c.printed-in-9.ensures c.printed-in-9-2.ensures refl)
+    (λ c. lines _ 10 c.in-10.is c.printed-in-10.ensures c.printed-in-10-2.ensures refl)
+    (λ c. lines _ 11 c.in-11.is c.printed-in-11.ensures c.printed-in-11-2.ensures refl)
+    (λ c. let code = c.args.code in lines code code refl c.printed-in_default.ensures c.printed-in_default-2.ensures (other code c.in_default.in_default-own.rest)))
