@@ -6,10 +6,7 @@ use Rattle.tides.proofs.bodies_number.Tie as tie
 
 returns : tie.Need-returns
 returns c =
-    let s2 = c.before in
-    let s1 = s2.before in
-    let a = s1.before.args in
-    together a.moon a.sun s1.see.result s2.see2.result c.both.result s1.see.ensures s2.see2.ensures c.both.ensures
+    together c.args.moon c.args.sun c.see-a.result c.see-b.result c.both.result c.see-a.ensures c.see-b.ensures c.both.ensures
 
-pub bodies-number-spec : {M : Type 1} → statement M
-bodies-number-spec = tie.close (tie.spec (λ c κs. search rules) (λ c κs. search rules) (λ c κs. search rules) returns)
+pub bodies_number_spec : {M : Type 1} → statement M
+bodies_number_spec = tie.close (tie.spec (λ c κs. search rules) (λ c κs. search rules) (λ c κs. search rules) returns)

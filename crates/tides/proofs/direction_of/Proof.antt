@@ -11,20 +11,20 @@ use Rattle.tides.proofs.AimLaws.{aim-accepted, aim-refused}
 use Rattle.tides.proofs.direction_of.Statement.{statement}
 use Rattle.tides.proofs.direction_of.Tie as tie
 
-returns : tie.Need-returns
+returns : tie.Need-returns-then-l-eq0
 returns c =
-    let m = c.before.before.args.m in
-    aim-refused m (unmarked m (sym c.before.length-of.ensures ∙ c.if1.true))
+    let m = c.args.m in
+    aim-refused m (unmarked m (sym c.length_of-l.ensures ∙ c.if-l-eq0.true))
 
-known : (c : tie.Else1) → marked c.before.before.args.m ≡ true
-known c = accepted c.before.before.args.m (λ e. c.if1.false (c.before.length-of.ensures ∙ e))
+known : (c : tie.Else-l-eq0) → marked c.args.m ≡ true
+known c = accepted c.args.m (λ e. c.if-l-eq0.false (c.length_of-l.ensures ∙ e))
 
-returns-2 : tie.Need-returns-2
+returns-2 : tie.Need-returns
 returns-2 c =
-    let m = c.before.before.before.args.m in
+    let m = c.args.m in
     aim-accepted m c.units.result (known c.before)
-    (c.units.ensures ∙ ap (λ (l : ℕ). units l m) (c.before.before.length-of.ensures ∙ accepted-length m (known c.before)))
+    (c.units.ensures ∙ ap (λ (l : ℕ). units l m) (c.length_of-l.ensures ∙ accepted-length m (known c.before)))
 
-pub direction-of-spec : {M : Type 1} → statement M
-direction-of-spec =
-    tie.close (tie.spec (λ c κs. search rules) returns (λ c κs. accepted-wide c.before.before.args.m (known c)) returns-2)
+pub direction_of_spec : {M : Type 1} → statement M
+direction_of_spec =
+    tie.close (tie.spec (λ c κs. search rules) returns (λ c κs. accepted-wide c.args.m (known c)) returns-2)

@@ -14,33 +14,33 @@ use Rattle.tides.proofs.DirectionLaws.{direction-within}
 use Rattle.tides.proofs.permanent.Statement.{statement}
 use Rattle.tides.proofs.permanent.Tie as tie
 
-returns : tie.Need-returns
+returns : tie.Need-returns-then-l-eq0
 returns c =
-    let m = c.before.before.before.args.m in
-    c.refused.ensures ∙ permanent-refused m (unmarked m (sym c.before.before.length-of.ensures ∙ c.before.if1.true))
+    let m = c.args.m in
+    c.refused.ensures ∙ permanent-refused m (unmarked m (sym c.length_of-l.ensures ∙ c.if-l-eq0.true))
 
-known : (c : tie.Else1) → marked c.before.before.args.m ≡ true
-known c = accepted c.before.before.args.m (λ e. c.if1.false (c.before.length-of.ensures ∙ e))
+known : (c : tie.Else-l-eq0) → marked c.args.m ≡ true
+known c = accepted c.args.m (λ e. c.if-l-eq0.false (c.length_of-l.ensures ∙ e))
 
-units-requires : tie.Need-units-requires
-units-requires c κs = accepted-wide c.before.before.args.m (known c)
+units-requires : tie.Need-units-u-requires
+units-requires c κs = accepted-wide c.args.m (known c)
 
-units-are : (c : tie.After-units) → c.units.result ≡ units (length_of c.before.before.before.args.m) c.before.before.before.args.m
+units-are : (c : tie.After-units-u) → c.units-u.result ≡ units (length_of c.args.m) c.args.m
 units-are c =
-    let m = c.before.before.before.args.m in
-    c.units.ensures ∙ ap (λ (l : ℕ). units l m) (c.before.before.length-of.ensures ∙ accepted-length m (known c.before))
+    let m = c.args.m in
+    c.units-u.ensures ∙ ap (λ (l : ℕ). units l m) (c.length_of-l.ensures ∙ accepted-length m (known c.before))
 
-permanent-of-requires : tie.Need-permanent-of-requires
-permanent-of-requires c κs = subst⁻¹ (λ (u : Vec3). Within E u) (units-are c) (direction-within (length_of c.before.before.before.args.m) c.before.before.before.args.m refl)
+permanent-of-requires : tie.Need-permanent_of-requires
+permanent-of-requires c κs = subst⁻¹ (λ (u : Vec3). Within E u) (units-are c) (direction-within (length_of c.args.m) c.args.m refl)
 
 named : (m u : Vec3) → u ≡ units (length_of m) m → permanent_of u ≡ permanent m
 unfolding permanent
 named m u e = ap permanent_of e
 
-returns-2 : tie.Need-returns-2
+returns-2 : tie.Need-returns
 returns-2 c =
-    let m = c.before.before.before.before.args.m in
-    permanent-accepted m c.permanent-of.result (known c.before.before) (c.permanent-of.ensures ∙ named m c.before.units.result (units-are c.before))
+    let m = c.args.m in
+    permanent-accepted m c.permanent_of.result (known c.before.before) (c.permanent_of.ensures ∙ named m c.units-u.result (units-are c.before))
 
-pub permanent-spec : {M : Type 1} → statement M
-permanent-spec = tie.close (tie.spec (λ c κs. search rules) (λ c κs. search rules) returns units-requires permanent-of-requires returns-2)
+pub permanent_spec : {M : Type 1} → statement M
+permanent_spec = tie.close (tie.spec (λ c κs. search rules) (λ c κs. search rules) returns units-requires permanent-of-requires returns-2)

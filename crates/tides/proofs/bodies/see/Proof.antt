@@ -47,32 +47,26 @@ module _ (low high : ℕ) (v : BodyVector) (p : Wholes) (e : p ≡ wholes_of v) 
       let w : p.at ≡ wholes v = is_at ∙ k.1 in
       rw (sym is_finite ∙ not-false p.finite f, k.0, t, w)
 
-returns : tie.Need-returns
+returns : tie.Need-returns-then-not-p
 returns c =
-    let w = c.before.before in
-    let a = w.before.args in
-    not_finite a.low a.high a.v w.wholes-of.result w.wholes-of.ensures c.if1.true
+    not_finite c.args.low c.args.high c.args.v c.wholes_of-p.result c.wholes_of-p.ensures c.if-not-p.true
 
-returns-2 : tie.Need-returns-2
+returns-2 : tie.Need-returns-then-squares-eq0
 returns-2 c =
-    let w = c.before.before.before.before in
-    let a = w.before.args in
-    out-of-reach a.low a.high a.v w.wholes-of.result w.wholes-of.ensures
-    w.before.requires.0 w.before.requires.1
-    c.before.before.if1.false
-    (sym (c.before.squares-within.ensures ∙ asked a.low a.high w.wholes-of.result.at w.before.requires.0) ∙ c.if2.true)
+    out-of-reach c.args.low c.args.high c.args.v c.wholes_of-p.result c.wholes_of-p.ensures
+    c.requires.0 c.requires.1
+    c.if-not-p.false
+    (sym (c.squares_within-squares.ensures ∙ asked c.args.low c.args.high c.wholes_of-p.result.at c.requires.0) ∙ c.if-squares-eq0.true)
 
-returns-3 : tie.Need-returns-3
+returns-3 : tie.Need-returns
 returns-3 c =
-    let w = c.before.before.before.before.before in
-    let a = w.before.args in
-    in_reach a.low a.high a.v w.wholes-of.result w.wholes-of.ensures
-    w.before.requires.0
-    c.before.before.before.if1.false
-    c.before.before.squares-within.result
-    (c.before.before.squares-within.ensures ∙ asked a.low a.high w.wholes-of.result.at w.before.requires.0)
-    c.before.if2.false
+    in_reach c.args.low c.args.high c.args.v c.wholes_of-p.result c.wholes_of-p.ensures
+    c.requires.0
+    c.if-not-p.false
+    c.squares_within-squares.result
+    (c.squares_within-squares.ensures ∙ asked c.args.low c.args.high c.wholes_of-p.result.at c.requires.0)
+    c.if-squares-eq0.false
 
-pub see-spec : {M : Type 1} → statement M
-see-spec =
+pub see_spec : {M : Type 1} → statement M
+see_spec =
     tie.close (tie.spec (λ c κs. search rules) returns (λ c κs. search rules) returns-2 returns-3)

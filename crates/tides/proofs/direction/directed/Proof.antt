@@ -5,7 +5,6 @@ use Prim.Native.Nat.{ℕ, ◌+◌, ◌*◌, ◌^◌, ◌≤◌}
 use native.Mathlib.Nat.{mul-le-mul}
 use native.Mathlib.Omega.{arith}
 use borrow.Author.Rules.{rules}
-use borrow.Author.Tests.{not-true, not-false}
 use lib.Dec.{leb}
 use lib.IntN.{nat_abs}
 use Rattle.algebra.proofs.Machine.{size_of}
@@ -26,11 +25,11 @@ summed : (u : Vec3) (x y z : ℕ) → sized E u ≡ true → x ≡ nat_abs u.x �
 unfolding directed squares
 summed u x y z e p q r = rw (e, p, q, r)
 
-returns : tie.Need-returns
-returns c = too_long c.before.before.args.u (sym c.before.sized.ensures ∙ not-true c.before.sized.result c.if1.true)
+returns : tie.Need-returns-then-not-sized
+returns c = too_long c.args.u (sym c.sized.ensures ∙ c.if-not-sized.true)
 
-short : (c : tie.Else1) → sized E c.before.before.args.u ≡ true
-short c = sym c.before.sized.ensures ∙ not-false c.before.sized.result c.if1.false
+short : (c : tie.Else-not-sized) → sized E c.args.u ≡ true
+short c = sym c.sized.ensures ∙ c.if-not-sized.false
 
 -- ---- the three magnitudes
 
@@ -45,33 +44,29 @@ record Sizes (u : Vec3) (x y z : ℕ) : Type 0 where
 square : (a b : ℕ) → a ≡ b → b ≤ E → a * a ≤ 2 ^ 60
 square a b e h = subst⁻¹ (λ (n : ℕ). n * n ≤ 2 ^ 60) e (mul-le-mul h h)
 
-sizes : (c : tie.After-magnitude3) → Sizes c.before.before.before.before.before.before.before.before.args.u c.before.before.before.before.magnitude.result c.before.before.magnitude2.result c.magnitude3.result
+sizes : (c : tie.After-magnitude-z) → Sizes c.args.u c.magnitude-x.result c.magnitude-y.result c.magnitude-z.result
 sizes c =
-    let m2 = c.before.before in
-    let m1 = m2.before.before in
-    let u = m1.before.before.before.before.args.u in
-    let w : Within E u = sized-is E u (short m1.before.before) in
-    let x = size_of m1.magnitude.result u.x (record { sfits = m1.before.struct_told.given.0.1 }) m1.magnitude.ensures in
-    let y = size_of m2.magnitude2.result u.y (record { sfits = m2.before.struct-told2.given.1.0.1 }) m2.magnitude2.ensures in
-    let z = size_of c.magnitude3.result u.z (record { sfits = c.before.struct-told3.given.1.1.0.1 }) c.magnitude3.ensures in
+    let u = c.args.u in
+    let w : Within E u = sized-is E u (short c.before.before.before.before.before.before) in
+    let x = size_of c.magnitude-x.result u.x (record { sfits = c.struct_told-1.given.0.1 }) c.magnitude-x.ensures in
+    let y = size_of c.magnitude-y.result u.y (record { sfits = c.struct_told-2-1.given.1.0.1 }) c.magnitude-y.ensures in
+    let z = size_of c.magnitude-z.result u.z (record { sfits = c.struct_told-3-1.given.1.1.0.1 }) c.magnitude-z.ensures in
     record {
       x-is = x;
       y-is = y;
       z-is = z;
-      x-square = square m1.magnitude.result (nat_abs u.x) x w.x;
-      y-square = square m2.magnitude2.result (nat_abs u.y) y w.y;
-      z-square = square c.magnitude3.result (nat_abs u.z) z w.z;
+      x-square = square c.magnitude-x.result (nat_abs u.x) x w.x;
+      y-square = square c.magnitude-y.result (nat_abs u.y) y w.y;
+      z-square = square c.magnitude-z.result (nat_abs u.z) z w.z;
     }
 
-returns-2 : tie.Need-returns-2
+returns-2 : tie.Need-returns
 returns-2 c =
-    let m2 = c.before.before in
-    let m1 = m2.before.before in
     let s = sizes c in
-    summed m1.before.before.before.before.args.u m1.magnitude.result m2.magnitude2.result c.magnitude3.result (short m1.before.before) s.x-is s.y-is s.z-is
+    summed c.args.u c.magnitude-x.result c.magnitude-y.result c.magnitude-z.result (short c.before.before.before.before.before.before) s.x-is s.y-is s.z-is
 
-pub directed-spec : {M : Type 1} → statement M
-directed-spec =
+pub directed_spec : {M : Type 1} → statement M
+directed_spec =
     tie.close
     (tie.spec (λ c κs. search rules) returns (λ c κs. search rules) (λ c κs. search rules) (λ c κs. search rules)
     (λ c. record { fits = omega (arith, sizes c) }) (λ c. record { fits = omega (arith, sizes c) }) (λ c. record { fits = omega (arith, sizes c) })

@@ -26,9 +26,9 @@ returns : tie.Need-returns
 returns c =
     answered c.near.result c.near.type_inv
     ∙ c.near.ensures
-    ∙ named c.before.args.s _ (at (less c.before) (lit< tt)).told
+    ∙ named c.args.s _ (at (less c.before) (lit< tt)).told
 
-pub legendre-spec : {M : Type 1} → statement M
-legendre-spec =
+pub legendre_spec : {M : Type 1} → statement M
+legendre_spec =
     tie.close
     (tie.spec (λ c. fit (thrice c) (lit< tt)) (λ c. fit (less c) (lit< tt)) (λ c κs. search rules) returns)

@@ -25,7 +25,7 @@ returns : tie.Need-returns
 returns c =
     answered c.near.result c.near.type_inv
     ∙ c.near.ensures
-    ∙ rounded c.before.args.x c.before.args.y _ (product c.before.args.x c.before.args.y c.before.ranges.x c.before.ranges.y c.before.requires)
+    ∙ rounded c.args.x c.args.y _ (product c.args.x c.args.y c.ranges.x c.ranges.y c.requires)
 
-pub times-spec : {M : Type 1} → statement M
-times-spec = tie.close (tie.spec (λ c. search rules) (λ c κs. search rules) returns)
+pub times_spec : {M : Type 1} → statement M
+times_spec = tie.close (tie.spec (λ c. search rules) (λ c κs. search rules) returns)

@@ -24,7 +24,7 @@ returns : tie.Need-returns
 returns c =
     answered c.near.result c.near.type_inv
     ∙ c.near.ensures
-    ∙ named c.before.args.l c.before.args.m _ (at (product c.before) (lit< tt)).told
+    ∙ named c.args.l c.args.m _ (at (product c.before) (lit< tt)).told
 
 pub unit_spec : {M : Type 1} → statement M
 unit_spec =

@@ -20,24 +20,23 @@ came : (l : ℕ) (z r : ℤ) → SFits w64 z → SFits w64 r → r ≡ unit l (t
 came l z r f g e = to_z-of_z g ∙ e ∙ ap (unit l) (to_z-of_z f)
 
 unit-requires-3 : tie.Need-unit-requires-3
-unit-requires-3 c κs = small c.before.before.before.before.before.args.v.z (record { sfits = c.struct-told3.given.1.1.0.1 }) c.before.before.before.before.before.requires.z
+unit-requires-3 c κs = small c.args.v.z (record { sfits = c.struct_told-3-1.given.1.1.0.1 }) c.requires.z
 
 three : (a b c a' b' c' : ℤ) → a ≡ a' → b ≡ b' → c ≡ c' → vec a b c ≡ vec a' b' c'
 three a b c a' b' c' e f g = cc
 
 returns : tie.Need-returns
 returns c =
-    let s = c.before.before.before.before.before.before in
-    let v = s.args.v in
-    let l = s.args.l in
+    let v = c.args.v in
+    let l = c.args.l in
     three _ _ _ (unit l v.x) (unit l v.y) (unit l v.z)
-    (came l v.x c.before.before.before.before.unit.result (record { sfits = c.before.before.before.before.before.struct_told.given.0.1 }) (record { sfits = c.before.before.before.before.unit.type_inv }) c.before.before.before.before.unit.ensures)
-    (came l v.y c.before.before.unit2.result (record { sfits = c.before.before.before.struct-told2.given.1.0.1 }) (record { sfits = c.before.before.unit2.type_inv }) c.before.before.unit2.ensures)
-    (came l v.z c.unit3.result (record { sfits = c.before.struct-told3.given.1.1.0.1 }) (record { sfits = c.unit3.type_inv }) c.unit3.ensures)
+    (came l v.x c.unit.result (record { sfits = c.struct_told-1.given.0.1 }) (record { sfits = c.unit.type_inv }) c.unit.ensures)
+    (came l v.y c.unit-2.result (record { sfits = c.struct_told-2-1.given.1.0.1 }) (record { sfits = c.unit-2.type_inv }) c.unit-2.ensures)
+    (came l v.z c.unit-3.result (record { sfits = c.struct_told-3-1.given.1.1.0.1 }) (record { sfits = c.unit-3.type_inv }) c.unit-3.ensures)
 
-pub units-spec : {M : Type 1} → statement M
-units-spec =
+pub units_spec : {M : Type 1} → statement M
+units_spec =
     tie.close
-    (tie.spec (λ c κs. small c.before.args.v.x (record { sfits = c.struct_told.given.0.1 }) c.before.requires.x)
-    (λ c κs. small c.before.before.before.args.v.y (record { sfits = c.struct-told2.given.1.0.1 }) c.before.before.before.requires.y)
+    (tie.spec (λ c κs. small c.args.v.x (record { sfits = c.struct_told-1.given.0.1 }) c.requires.x)
+    (λ c κs. small c.args.v.y (record { sfits = c.struct_told-2-1.given.1.0.1 }) c.requires.y)
     unit-requires-3 returns)

@@ -26,33 +26,32 @@ up c = v* (given c.ranges.rho c.requires.0) (given c.ranges.u c.requires.1.1.1.0
 along : (c : tie.Start) → Va (held c.args.c *ℤ held c.args.u) (c.args.c *ℤ c.args.u) (1073742006 * E)
 along c = v* (given c.ranges.c c.requires.1.1.0) (given c.ranges.u c.requires.1.1.1.0)
 
-part : (c : tie.After-times) → Va (held c.times.result) (times c.before.args.c c.before.args.u) 1073742006
+part : (c : tie.After-times) → Va (held c.times.result) (times c.args.c c.args.u) 1073742006
 part c =
-    let s = c.before in
-    vtimes 1073742006 c.times.ensures (given s.ranges.c s.requires.1.1.0) (given s.ranges.u s.requires.1.1.1.0) (lit≤ tt) (lit< tt)
+    vtimes 1073742006 c.times.ensures (given c.ranges.c c.requires.1.1.0) (given c.ranges.u c.requires.1.1.1.0) (lit≤ tt) (lit< tt)
 
 -- d - near(c u/E)
 across :
     (c : tie.After-times)
-    → Va (held c.before.args.d -ℤ held c.times.result)
-    (c.before.args.d -ℤ times c.before.args.c c.before.args.u)
+    → Va (held c.args.d -ℤ held c.times.result)
+    (c.args.d -ℤ times c.args.c c.args.u)
     (E + 1073742006)
-across c = v- (given c.before.ranges.d c.before.requires.1.1.1.1) (part c)
+across c = v- (given c.ranges.d c.requires.1.1.1.1) (part c)
 
 side :
     (c : tie.After-times)
-    → Va (held c.before.args.t *ℤ held (held c.before.args.d -ℤ held c.times.result))
-    (c.before.args.t *ℤ (c.before.args.d -ℤ times c.before.args.c c.before.args.u))
+    → Va (held c.args.t *ℤ held (held c.args.d -ℤ held c.times.result))
+    (c.args.t *ℤ (c.args.d -ℤ times c.args.c c.args.u))
     (200000000 * (E + 1073742006))
-side c = v* (given c.before.ranges.t c.before.requires.1.0) (at (across c) (lit< tt))
+side c = v* (given c.ranges.t c.requires.1.0) (at (across c) (lit< tt))
 
 whole :
     (c : tie.After-times)
     → Va
-    (held (held c.before.args.rho *ℤ held c.before.args.u)
-    +ℤ held (held c.before.args.t *ℤ held (held c.before.args.d -ℤ held c.times.result)))
-    (c.before.args.rho *ℤ c.before.args.u
-    +ℤ c.before.args.t *ℤ (c.before.args.d -ℤ times c.before.args.c c.before.args.u))
+    (held (held c.args.rho *ℤ held c.args.u)
+    +ℤ held (held c.args.t *ℤ held (held c.args.d -ℤ held c.times.result)))
+    (c.args.rho *ℤ c.args.u
+    +ℤ c.args.t *ℤ (c.args.d -ℤ times c.args.c c.args.u))
     (500000000 * E + 200000000 * (E + 1073742006))
 whole c = v+ (at (up c.before) (lit< tt)) (at (side c) (lit< tt))
 
@@ -63,13 +62,12 @@ named rho t c u d z e = ap (λ (s : ℤ). near s 1073741824) e
 
 returns : tie.Need-returns
 returns c =
-    let s = c.before.before in
     answered c.near.result c.near.type_inv
     ∙ c.near.ensures
-    ∙ named s.args.rho s.args.t s.args.c s.args.u s.args.d _ (at (whole c.before) (lit< tt)).told
+    ∙ named c.args.rho c.args.t c.args.c c.args.u c.args.d _ (at (whole c.before) (lit< tt)).told
 
-pub component-spec : {M : Type 1} → statement M
-component-spec =
+pub component_spec : {M : Type 1} → statement M
+component_spec =
     tie.close
     (tie.spec (λ c. fit (up c) (lit< tt)) (λ c κs. fit (along c) (lit< tt)) (λ c. fit (across c) (lit< tt)) (λ c. fit (side c) (lit< tt))
     (λ c. fit (whole c) (lit< tt)) (λ c κs. search rules) returns)

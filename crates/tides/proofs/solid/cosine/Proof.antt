@@ -48,38 +48,32 @@ named : (u d : Vec3) (z : ℤ) → z ≡ u.x *ℤ d.x +ℤ u.y *ℤ d.y +ℤ u.z
 unfolding cosine
 named u d z e = ap (λ (s : ℤ). near s 1073741824) e
 
-mul-near : tie.Need-overflow-mul-near
+mul-near : tie.Need-overflow_mul-u
 mul-near c =
-    let s = c.before.before.before.before in
-    fit (xs s.args.u s.args.d s.requires.0 s.requires.1) (lit< tt)
+    fit (xs c.args.u c.args.d c.requires.0 c.requires.1) (lit< tt)
 
-mul-near-2 : tie.Need-overflow-mul-near-2
+mul-near-2 : tie.Need-overflow_mul-u-2
 mul-near-2 c =
-    let s = c.before.before.before.before.before.before.before.before in
-    fit (ys s.args.u s.args.d s.requires.0 s.requires.1) (lit< tt)
+    fit (ys c.args.u c.args.d c.requires.0 c.requires.1) (lit< tt)
 
-add-near : tie.Need-overflow-add-near
+add-near : tie.Need-overflow_add-u
 add-near c =
-    let s = c.before.before.before.before.before.before.before.before in
-    fit (two s.args.u s.args.d s.requires.0 s.requires.1) (lit< tt)
+    fit (two c.args.u c.args.d c.requires.0 c.requires.1) (lit< tt)
 
-mul-near-3 : tie.Need-overflow-mul-near-3
+mul-near-3 : tie.Need-overflow_mul-u-3
 mul-near-3 c =
-    let s = c.before.before.before.before.before.before.before.before.before.before.before.before in
-    fit (zs s.args.u s.args.d s.requires.0 s.requires.1) (lit< tt)
+    fit (zs c.args.u c.args.d c.requires.0 c.requires.1) (lit< tt)
 
-add-near-2 : tie.Need-overflow-add-near-2
+add-near-2 : tie.Need-overflow_add-u-2
 add-near-2 c =
-    let s = c.before.before.before.before.before.before.before.before.before.before.before.before in
-    fit (three s.args.u s.args.d s.requires.0 s.requires.1) (lit< tt)
+    fit (three c.args.u c.args.d c.requires.0 c.requires.1) (lit< tt)
 
 returns : tie.Need-returns
 returns c =
-    let s = c.before.before.before.before.before.before.before.before.before.before.before.before.before in
     answered c.near.result c.near.type_inv
     ∙ c.near.ensures
-    ∙ named s.args.u s.args.d _ (at (three s.args.u s.args.d s.requires.0 s.requires.1) (lit< tt)).told
+    ∙ named c.args.u c.args.d _ (at (three c.args.u c.args.d c.requires.0 c.requires.1) (lit< tt)).told
 
-pub cosine-spec : {M : Type 1} → statement M
-cosine-spec =
+pub cosine_spec : {M : Type 1} → statement M
+cosine_spec =
     tie.close (tie.spec mul-near mul-near-2 add-near mul-near-3 add-near-2 (λ c κs. search rules) returns)

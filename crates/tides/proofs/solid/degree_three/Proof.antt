@@ -44,48 +44,48 @@ vq4 c = vtimes 1572065409 c.times.ensures (vq3 c.before) (vq (at-cube c.before))
 abbrev Ks : tie.Start → ℤ
 Ks s = strength_three third_k0 s.args.b.q
 
-v_k : (c : tie.After-times2) → Va (rd c.times2.result) (Ks (at-cube c.before.before)) 12719293
+v_k : (c : tie.After-times-k) → Va (rd c.times-k.result) (Ks (at-cube c.before.before)) 12719293
 unfolding strength_three
-v_k c = vtimes 12719293 c.times2.ensures (lit third_k0) (vq4 c.before) (lit≤ tt) (lit< tt)
+v_k c = vtimes 12719293 c.times-k.ensures (lit third_k0) (vq4 c.before) (lit≤ tt) (lit< tt)
 
 -- ---- H, S, p, v
 
-abbrev at-K : tie.After-times2 → tie.Start
+abbrev at-K : tie.After-times-k → tie.Start
 at-K c = at-cube c.before.before
 
-v_h : (c : tie.After-near) → Va (rd c.near.result) (up_share_three (Ks (at-K c.before))) 3714034
+v_h : (c : tie.After-near-h) → Va (rd c.near-h.result) (up_share_three (Ks (at-K c.before))) 3714034
 unfolding up_share_three
-v_h c = vnear 1000 3714034 c.near.ensures (at (v* (lit 292) (v_k c.before)) (lit< tt)) (lit≤ tt) (lit< tt)
+v_h c = vnear 1000 3714034 c.near-h.ensures (at (v* (lit 292) (v_k c.before)) (lit< tt)) (lit≤ tt) (lit< tt)
 
-v_s : (c : tie.After-near2) → Va (rd c.near2.result) (side_share_three (Ks (at-K c.before.before))) 190790
+v_s : (c : tie.After-near-s) → Va (rd c.near-s.result) (side_share_three (Ks (at-K c.before.before))) 190790
 unfolding side_share_three
-v_s c = vnear 1000 190790 c.near2.ensures (at (v* (lit 15) (v_k c.before.before)) (lit< tt)) (lit≤ tt) (lit< tt)
+v_s c = vnear 1000 190790 c.near-s.ensures (at (v* (lit 15) (v_k c.before.before)) (lit< tt)) (lit≤ tt) (lit< tt)
 
-abbrev at_p : tie.After-height-three → tie.Start
+abbrev at_p : tie.After-height_three → tie.Start
 at_p c = at-K c.before.before.before
 
-vp : (c : tie.After-height-three) → Va (rd c.height-three.result) (height_three (at_p c).args.b.c) (4 * E + 1643)
+vp : (c : tie.After-height_three) → Va (rd c.height_three.result) (height_three (at_p c).args.b.c) (4 * E + 1643)
 vp c =
     let s = at_p c in
-    said (c.height-three.ensures ∙ ap height_three (vc s).told) (height-three-bound s.args.b.c (stood s).c) (lit< tt)
+    said (c.height_three.ensures ∙ ap height_three (vc s).told) (height-three-bound s.args.b.c (stood s).c) (lit< tt)
 
-abbrev at-v : tie.After-slope-three → tie.Start
+abbrev at-v : tie.After-slope_three → tie.Start
 at-v c = at_p c.before.before
 
-vv : (c : tie.After-slope-three) → Va (rd c.slope-three.result) (slope_three (at-v c).args.b.c) (9 * E + 2738)
+vv : (c : tie.After-slope_three) → Va (rd c.slope_three.result) (slope_three (at-v c).args.b.c) (9 * E + 2738)
 vv c =
     let s = at-v c in
-    said (c.slope-three.ensures ∙ ap slope_three (vc s).told) (slope-three-bound s.args.b.c (stood s).c) (lit< tt)
+    said (c.slope_three.ensures ∙ ap slope_three (vc s).told) (slope-three-bound s.args.b.c (stood s).c) (lit< tt)
 
 -- ---- rho and t
 
-vrho : (c : tie.After-times3) → let s = at_p c.before in Va (rd c.times3.result) (upward_three (Ks s) s.args.b.c) 14856142
+vrho : (c : tie.After-times-rho) → let s = at_p c.before in Va (rd c.times-rho.result) (upward_three (Ks s) s.args.b.c) 14856142
 unfolding upward_three
-vrho c = vtimes 14856142 c.times3.ensures (v_h c.before.before.before) (vp c.before) (lit≤ tt) (lit< tt)
+vrho c = vtimes 14856142 c.times-rho.ensures (v_h c.before.before.before) (vp c.before) (lit≤ tt) (lit< tt)
 
-vt : (c : tie.After-times4) → let s = at-v c.before in Va (rd c.times4.result) (sideways_three (Ks s) s.args.b.c) 1717111
+vt : (c : tie.After-times-t) → let s = at-v c.before in Va (rd c.times-t.result) (sideways_three (Ks s) s.args.b.c) 1717111
 unfolding sideways_three
-vt c = vtimes 1717111 c.times4.ensures (v_s c.before.before.before.before) (vv c.before) (lit≤ tt) (lit< tt)
+vt c = vtimes 1717111 c.times-t.ensures (v_s c.before.before.before.before) (vv c.before) (lit≤ tt) (lit< tt)
 
 named : (u : Vec3) (b : Standing) (rho t : ℤ) → rho ≡ upward_three (strength_three third_k0 b.q) b.c → t ≡ sideways_three (strength_three third_k0 b.q) b.c → displaced rho t u b ≡ degree_three third_k0 u b
 unfolding degree_three
@@ -94,16 +94,15 @@ named u b rho t e f = λ i. displaced (e i) (f i) u b
 displaced-requires : tie.Need-displaced-requires
 displaced-requires c κs =
     let s = at-v c.before in
-    (size (vrho c.before.before) (lit≤ tt), (size (vt c) (lit≤ tt), (s.pre.0, stood s)))
+    (size (vrho c.before.before) (lit≤ tt), (size (vt c) (lit≤ tt), (s.requires.0, stood s)))
 
 returns : tie.Need-returns
 returns c =
-    let t = c.before in
-    let s = at-v t.before in
-    c.displaced.ensures ∙ named s.args.u s.args.b _ _ (vrho t.before.before).told (vt t).told
+    let s = at-v c.before.before in
+    c.displaced.ensures ∙ named s.args.u s.args.b _ _ (vrho c.before.before.before).told (vt c.before).told
 
-pub degree-three-spec : {M : Type 1} → statement M
-degree-three-spec =
+pub degree_three_spec : {M : Type 1} → statement M
+degree_three_spec =
     tie.close
     (tie.spec (λ c κs. search rules) (λ c κs. fit (v* (vq3 c) (vq (at-cube c))) (lit< tt)) (λ c κs. fit (v* (lit third_k0) (vq4 c)) (lit< tt))
     (λ c. fit (v* (lit 292) (v_k c)) (lit< tt)) (λ c κs. search rules) (λ c. fit (v* (lit 15) (v_k c.before)) (lit< tt)) (λ c κs. search rules)

@@ -52,44 +52,43 @@ vq3 c =
 abbrev Ks : tie.Start → ℤ
 Ks s = strength (nat_abs s.args.k0) s.args.b.q
 
-v_k : (c : tie.After-times) → Va (rd c.times.result) (Ks (at-cube c.before)) 696882923
+v_k : (c : tie.After-times-k) → Va (rd c.times-k.result) (Ks (at-cube c.before)) 696882923
 v_k c =
     let s = at-cube c.before in
-    vis (vtimes 696882924 c.times.ensures (vk0 s) (vq3 c.before) (lit≤ tt) (lit< tt)) (K-is s.args.k0 s.args.b.q s.pre.1.0)
-    (K-bound (nat_abs s.args.k0) s.args.b.q (stood s).q s.pre.0)
+    vis (vtimes 696882924 c.times-k.ensures (vk0 s) (vq3 c.before) (lit≤ tt) (lit< tt)) (K-is s.args.k0 s.args.b.q s.requires.1.0)
+    (K-bound (nat_abs s.args.k0) s.args.b.q (stood s).q s.requires.0)
 
 -- ---- P, H, S, p
 
 abbrev Ps : tie.Start → ℤ
 Ps s = latitude s.args.u
 
-v_p : (c : tie.After-latitude) → Va (rd c.latitude.result) (Ps (at-cube c.before.before)) (E + 548)
+v_p : (c : tie.After-latitude-p) → Va (rd c.latitude-p.result) (Ps (at-cube c.before.before)) (E + 548)
 v_p c =
     let s = at-cube c.before.before in
-    said c.latitude.ensures (latitude-bound s.args.u s.pre.1.1.0) (lit< tt)
+    said c.latitude-p.ensures (latitude-bound s.args.u s.requires.1.1.0) (lit< tt)
 
 -- a share that is asked for is that of the plain P and K
 shared : (a b : ℤ) {p p' k k' : ℤ} {n m : ℕ} → Va p p' n → Va k k' m → share_of a b p k ≡ share_of a b p' k'
 shared a b v w = ap₂ (λ (p k : ℤ). share_of a b p k) v.told w.told
 
-v_h : (c : tie.After-share) → let s = at-cube c.before.before.before in Va (rd c.share.result) (up_share (Ps s) (Ks s)) 424053260
+v_h : (c : tie.After-share-h) → let s = at-cube c.before.before.before in Va (rd c.share-h.result) (up_share (Ps s) (Ks s)) 424053260
 v_h c =
     let s = at-cube c.before.before.before in
-    said (c.share.ensures ∙ shared (pos 6078) (negsuc 5) (v_p c.before) (v_k c.before.before) ∙ up_is (Ps s) (Ks s))
+    said (c.share-h.ensures ∙ shared (pos 6078) (negsuc 5) (v_p c.before) (v_k c.before.before) ∙ up_is (Ps s) (Ks s))
     (omega (arith, up-share-size (Ps s) (Ks s) (v_p c.before).small, (v_k c.before.before).small)) (lit< tt)
 
-v_s : (c : tie.After-share2) → let s = at-cube c.before.before.before.before in Va (rd c.share2.result) (side_share (Ps s) (Ks s)) 59235049
+v_s : (c : tie.After-share-s) → let s = at-cube c.before.before.before.before in Va (rd c.share-s.result) (side_share (Ps s) (Ks s)) 59235049
 v_s c =
-    let l = c.before.before in
-    let s = at-cube l.before.before in
-    said (c.share2.ensures ∙ shared (pos 847) (pos 2) (v_p l) (v_k l.before) ∙ side-is (Ps s) (Ks s))
-    (omega (arith, side-share-size (Ps s) (Ks s) (v_p l).small, (v_k l.before).small)) (lit< tt)
+    let s = at-cube c.before.before.before.before in
+    said (c.share-s.ensures ∙ shared (pos 847) (pos 2) (v_p c.before.before) (v_k c.before.before.before) ∙ side-is (Ps s) (Ks s))
+    (omega (arith, side-share-size (Ps s) (Ks s) (v_p c.before.before).small, (v_k c.before.before.before).small)) (lit< tt)
 
-abbrev at-square : tie.After-times2 → tie.Start
+abbrev at-square : tie.After-times → tie.Start
 at-square c = at-cube c.before.before.before.before.before
 
-v_c2 : (c : tie.After-times2) → Va (rd c.times2.result) (times (at-square c).args.b.c (at-square c).args.b.c) (E + 365)
-v_c2 c = vtimes (E + 365) c.times2.ensures (vc (at-square c)) (vc (at-square c)) (lit≤ tt) (lit< tt)
+v_c2 : (c : tie.After-times) → Va (rd c.times.result) (times (at-square c).args.b.c (at-square c).args.b.c) (E + 365)
+v_c2 c = vtimes (E + 365) c.times.ensures (vc (at-square c)) (vc (at-square c)) (lit≤ tt) (lit< tt)
 
 height-is : (c : ℤ) → nat_abs c ≤ E + 182 → nat_abs (legendre (times c c)) ≤ E + 548
 unfolding height
@@ -102,17 +101,17 @@ vp c =
 
 -- ---- rho and t
 
-abbrev at-rho : tie.After-times3 → tie.Start
+abbrev at-rho : tie.After-times-rho → tie.Start
 at-rho c = at-square c.before.before
 
-vrho : (c : tie.After-times3) → let s = at-rho c in Va (rd c.times3.result) (upward (Ps s) (Ks s) s.args.b.c) 424053477
+vrho : (c : tie.After-times-rho) → let s = at-rho c in Va (rd c.times-rho.result) (upward (Ps s) (Ks s) s.args.b.c) 424053477
 unfolding upward height
-vrho c = vtimes 424053477 c.times3.ensures (v_h c.before.before.before.before) (vp c.before) (lit≤ tt) (lit< tt)
+vrho c = vtimes 424053477 c.times-rho.ensures (v_h c.before.before.before.before) (vp c.before) (lit≤ tt) (lit< tt)
 
-vside : (c : tie.After-times4) → let s = at-rho c.before in Va (rd c.times4.result) (times (side_share (Ps s) (Ks s)) s.args.b.c) 59235060
-vside c = vtimes 59235060 c.times4.ensures (v_s c.before.before.before.before) (vc (at-rho c.before)) (lit≤ tt) (lit< tt)
+vside : (c : tie.After-times-t) → let s = at-rho c.before in Va (rd c.times-t.result) (times (side_share (Ps s) (Ks s)) s.args.b.c) 59235060
+vside c = vtimes 59235060 c.times-t.ensures (v_s c.before.before.before.before) (vc (at-rho c.before)) (lit≤ tt) (lit< tt)
 
-vt : (c : tie.After-times4) → let s = at-rho c.before in Va (pos 3 *ℤ rd c.times4.result) (sideways (Ps s) (Ks s) s.args.b.c) (3 * 59235060)
+vt : (c : tie.After-times-t) → let s = at-rho c.before in Va (pos 3 *ℤ rd c.times-t.result) (sideways (Ps s) (Ks s) s.args.b.c) (3 * 59235060)
 unfolding sideways
 vt c = v* (lit 3) (vside c)
 
@@ -127,16 +126,15 @@ named k0 u b rho t e f = λ i. displaced (e i) (f i) u b
 displaced-requires : tie.Need-displaced-requires
 displaced-requires c κs =
     let s = at-rho c.before in
-    (size (vrho c.before) (lit≤ tt), (size (at (vt c) (lit< tt)) (lit≤ tt), (s.pre.1.1.0, stood s)))
+    (size (vrho c.before) (lit≤ tt), (size (at (vt c) (lit< tt)) (lit≤ tt), (s.requires.1.1.0, stood s)))
 
 returns : tie.Need-returns
 returns c =
-    let t = c.before in
-    let s = at-rho t.before in
-    c.displaced.ensures ∙ named (nat_abs s.args.k0) s.args.u s.args.b _ _ (vrho t.before).told (at (vt t) (lit< tt)).told
+    let s = at-rho c.before.before in
+    c.displaced.ensures ∙ named (nat_abs s.args.k0) s.args.u s.args.b _ _ (vrho c.before.before).told (at (vt c.before) (lit< tt)).told
 
-pub degree-two-spec : {M : Type 1} → statement M
-degree-two-spec =
+pub degree_two_spec : {M : Type 1} → statement M
+degree_two_spec =
     tie.close
     (tie.spec (λ c κs. search rules) (λ c κs. fit (v* (vk0 (at-cube c)) (vq3 c)) (lit< tt)) (λ c κs. (at-cube c.before).requires.1.1.0)
     (λ c κs. (lit≤ tt, (lit≤ tt, (size (v_p c) (lit≤ tt), size (v_k c.before) (lit≤ tt)))))

@@ -56,30 +56,27 @@ given_back s r a b ok e h k =
     answered r ok ∙ e ∙ same (vrho s).told (vt s).told (vc s).told (held a E h (lit< tt)).told (held b E k (lit< tt)).told
 
 component-requires : tie.Need-component-requires
-component-requires c κs = let s = c.before.before.before.before in asked s s.args.u.x s.args.b.d.x (within-u s).x (stood s).d.x
+component-requires c κs = asked c.before.before.before.before c.args.u.x c.args.b.d.x (within-u c.before.before.before.before).x (stood c.before.before.before.before).d.x
 
 component-requires-2 : tie.Need-component-requires-2
 component-requires-2 c κs =
-    let s = c.before.before.before.before.before.before.before in
-    asked s s.args.u.y s.args.b.d.y (within-u s).y (stood s).d.y
+    asked c.before.before.before.before.before.before.before c.args.u.y c.args.b.d.y (within-u c.before.before.before.before.before.before.before).y (stood c.before.before.before.before.before.before.before).d.y
 
 component-requires-3 : tie.Need-component-requires-3
 component-requires-3 c κs =
-    let s = c.before.before.before.before.before.before.before.before.before.before in
-    asked s s.args.u.z s.args.b.d.z (within-u s).z (stood s).d.z
+    asked c.before.before.before.before.before.before.before.before.before.before c.args.u.z c.args.b.d.z (within-u c.before.before.before.before.before.before.before.before.before.before).z (stood c.before.before.before.before.before.before.before.before.before.before).d.z
 
 returns : tie.Need-returns
 unfolding displaced
 returns c =
-    let s = c.before.before.before.before.before.before.before.before.before.before.before in
-    let b = s.args.b in
-    let x = c.before.before.before.before.before.before.component in
-    let y = c.before.before.before.component2 in
-    let z = c.component3 in
+    let b = c.args.b in
+    let x = c.component in
+    let y = c.component-2 in
+    let z = c.component-3 in
     vec≡
-    (given_back s x.result s.args.u.x b.d.x x.type_inv x.ensures (within-u s).x (stood s).d.x)
-    (given_back s y.result s.args.u.y b.d.y y.type_inv y.ensures (within-u s).y (stood s).d.y)
-    (given_back s z.result s.args.u.z b.d.z z.type_inv z.ensures (within-u s).z (stood s).d.z)
+    (given_back c.before.before.before.before.before.before.before.before.before.before.before x.result c.args.u.x b.d.x x.type_inv x.ensures (within-u c.before.before.before.before.before.before.before.before.before.before.before).x (stood c.before.before.before.before.before.before.before.before.before.before.before).d.x)
+    (given_back c.before.before.before.before.before.before.before.before.before.before.before y.result c.args.u.y b.d.y y.type_inv y.ensures (within-u c.before.before.before.before.before.before.before.before.before.before.before).y (stood c.before.before.before.before.before.before.before.before.before.before.before).d.y)
+    (given_back c.before.before.before.before.before.before.before.before.before.before.before z.result c.args.u.z b.d.z z.type_inv z.ensures (within-u c.before.before.before.before.before.before.before.before.before.before.before).z (stood c.before.before.before.before.before.before.before.before.before.before.before).d.z)
 
-pub displaced-spec : {M : Type 1} → statement M
-displaced-spec = tie.close (tie.spec component-requires component-requires-2 component-requires-3 returns)
+pub displaced_spec : {M : Type 1} → statement M
+displaced_spec = tie.close (tie.spec component-requires component-requires-2 component-requires-3 returns)

@@ -16,23 +16,22 @@ use Rattle.tides.proofs.solid.height_three.Tie as tie
 vc : (s : tie.Start) → Va (rd s.args.c) s.args.c (E + 182)
 vc s = given s.ranges.c s.requires
 
-five : (c : tie.After-cube) → Va (pos 5 *ℤ rd c.cube.result) (pos 5 *ℤ cube c.before.args.c) (5 * (E + 548))
+five : (c : tie.After-cube) → Va (pos 5 *ℤ rd c.cube.result) (pos 5 *ℤ cube c.args.c) (5 * (E + 548))
 five c =
-    let s = c.before in
-    v* (lit 5) (said (c.cube.ensures ∙ ap cube (vc s).told) (cosine-cube s.args.c s.requires) (lit< tt))
+    v* (lit 5) (said (c.cube.ensures ∙ ap cube (vc c.before).told) (cosine-cube c.args.c c.requires) (lit< tt))
 
 three : (s : tie.Start) → Va (pos 3 *ℤ rd s.args.c) (pos 3 *ℤ s.args.c) (3 * (E + 182))
 three s = v* (lit 3) (vc s)
 
-whole : (c : tie.After-cube) → Va (rd (pos 5 *ℤ rd c.cube.result) -ℤ rd (pos 3 *ℤ rd c.before.args.c)) (pos 5 *ℤ cube c.before.args.c -ℤ pos 3 *ℤ c.before.args.c) (5 * (E + 548) + 3 * (E + 182))
+whole : (c : tie.After-cube) → Va (rd (pos 5 *ℤ rd c.cube.result) -ℤ rd (pos 3 *ℤ rd c.args.c)) (pos 5 *ℤ cube c.args.c -ℤ pos 3 *ℤ c.args.c) (5 * (E + 548) + 3 * (E + 182))
 whole c = v- (at (five c) (lit< tt)) (at (three c.before) (lit< tt))
 
 returns : tie.Need-returns
 unfolding height_three
 returns c = (vnear 2 (4 * E + 1643) c.near.ensures (at (whole c.before) (lit< tt)) (lit≤ tt) (lit< tt)).told
 
-pub height-three-spec : {M : Type 1} → statement M
-height-three-spec =
+pub height_three_spec : {M : Type 1} → statement M
+height_three_spec =
     tie.close
     (tie.spec (λ c κs. size (vc c) (lit≤ tt)) (λ c. fit (five c) (lit< tt)) (λ c. fit (three c.before) (lit< tt)) (λ c. fit (whole c) (lit< tt))
     (λ c κs. search rules) returns)

@@ -47,70 +47,54 @@ summed : (u : Vec3) (v w : BodyVector) (s : Vec3) → bodies_number v w ≡ 0 �
 unfolding pair_answer
 summed u v w s h e = rw (h, e)
 
-number_is : (c : tie.After-both) → let a = c.before.before.before.args in c.both.result ≡ bodies_number a.v a.w
+number_is : (c : tie.After-both-number) → c.both-number.result ≡ bodies_number c.args.v c.args.w
 number_is c =
-    let s2 = c.before in
-    let s1 = s2.before in
-    let a = s1.before.args in
-    together a.v a.w s1.see.result s2.see2.result c.both.result s1.see.ensures s2.see2.ensures c.both.ensures
+    together c.args.v c.args.w c.see-moon.result c.see-sun.result c.both-number.result c.see-moon.ensures c.see-sun.ensures c.both-number.ensures
 
-returns : tie.Need-returns
-returns c = let a = c.before.before.before.before.args in refused a.u a.v a.w c.before.both.result (number_is c.before) c.if1.true
+returns : tie.Need-returns-then-number-ne0
+returns c = refused c.args.u c.args.v c.args.w c.both-number.result (number_is c.before) c.if-number-ne0.true
 
 -- ---- both are accepted
 
-zeros : (c : tie.Else1) → (c.before.before.before.see.result.number ≡ 0) × (c.before.before.see2.result.number ≡ 0)
-zeros c = both_zero c.before.before.before.see.result.number c.before.before.see2.result.number (sym c.before.both.ensures ∙ c.if1.false)
+zeros : (c : tie.Else-number-ne0) → (c.see-moon.result.number ≡ 0) × (c.see-sun.result.number ≡ 0)
+zeros c = both_zero c.see-moon.result.number c.see-sun.result.number (sym c.both-number.ensures ∙ c.if-number-ne0.false)
 
-moon-part-requires : tie.Need-moon-part-requires
+moon-part-requires : tie.Need-moon_part-requires
 moon-part-requires c κs =
-    let m = c.before.before.before in
-    (m.before.requires, reached 350000000 410000000 m.before.args.v m.see.result m.see.ensures (zeros c).0)
+    (c.requires, reached 350000000 410000000 c.args.v c.see-moon.result c.see-moon.ensures (zeros c).0)
 
-sun-part-requires : tie.Need-sun-part-requires
+sun-part-requires : tie.Need-sun_part-requires
 sun-part-requires c κs =
-    let s = c.before.before.before in
-    let t = s.before.before in
-    (t.requires, reached 146000000 153000000 t.args.w s.see2.result s.see2.ensures (zeros c.before).1)
+    (c.requires, reached 146000000 153000000 c.args.w c.see-sun.result c.see-sun.ensures (zeros c.before).1)
 
-moon-is : (c : tie.After-moon-part) → let a = c.before.before.before.before.before.args in c.moon-part.result ≡ moon_part a.u (wholes a.v)
+moon-is : (c : tie.After-moon_part) → c.moon_part.result ≡ moon_part c.args.u (wholes c.args.v)
 moon-is c =
-    let m = c.before.before.before.before in
-    let a = m.before.args in
-    c.moon-part.ensures ∙ ap (moon_part a.u) (there 350000000 410000000 a.v m.see.result m.see.ensures (zeros c.before).0)
+    c.moon_part.ensures ∙ ap (moon_part c.args.u) (there 350000000 410000000 c.args.v c.see-moon.result c.see-moon.ensures (zeros c.before).0)
 
-sun-is : (c : tie.After-sun-part) → let a = c.before.before.before.before.before.before.args in c.sun-part.result ≡ sun_part a.u (wholes a.w)
+sun-is : (c : tie.After-sun_part) → c.sun_part.result ≡ sun_part c.args.u (wholes c.args.w)
 sun-is c =
-    let s = c.before.before.before.before in
-    let a = s.before.before.args in
-    c.sun-part.ensures ∙ ap (sun_part a.u) (there 146000000 153000000 a.w s.see2.result s.see2.ensures (zeros c.before.before).1)
+    c.sun_part.ensures ∙ ap (sun_part c.args.u) (there 146000000 153000000 c.args.w c.see-sun.result c.see-sun.ensures (zeros c.before.before).1)
 
 sum-requires : tie.Need-sum-requires
 sum-requires c κs =
-    let e = c.before.before in
-    let m = e.before.before.before in
-    let s = e.before.before in
-    let u = m.before.args.u in
-    let d = m.before.requires in
-    let a = reached 350000000 410000000 m.before.args.v m.see.result m.see.ensures (zeros e).0 in
-    let b = reached 146000000 153000000 m.before.args.w s.see2.result s.see2.ensures (zeros e).1 in (
-      subst⁻¹ (Within 1461000000) c.before.moon-part.ensures (widen (moon-part-small u m.see.result.at d a.least) (lit≤ tt)),
-      subst⁻¹ (Within 1461000000) c.sun-part.ensures (widen (sun-part-small u s.see2.result.at d b.least) (lit≤ tt)),
+    let u = c.args.u in
+    let d = c.requires in
+    let a = reached 350000000 410000000 c.args.v c.see-moon.result c.see-moon.ensures (zeros c.before.before).0 in
+    let b = reached 146000000 153000000 c.args.w c.see-sun.result c.see-sun.ensures (zeros c.before.before).1 in (
+      subst⁻¹ (Within 1461000000) c.moon_part.ensures (widen (moon-part-small u c.see-moon.result.at d a.least) (lit≤ tt)),
+      subst⁻¹ (Within 1461000000) c.sun_part.ensures (widen (sun-part-small u c.see-sun.result.at d b.least) (lit≤ tt)),
     )
 
 added : (u : Vec3) (v w : BodyVector) (s a b : Vec3) → s ≡ plus a b → a ≡ moon_part u (wholes v) → b ≡ sun_part u (wholes w) → s ≡ tide_at u v w
 unfolding tide_at
 added u v w s a b e f g = e ∙ ap₂ plus f g
 
-returns-2 : tie.Need-returns-2
+returns-2 : tie.Need-returns
 returns-2 c =
-    let t = c.before in
-    let e = t.before.before in
-    let a = e.before.before.before.before.args in
-    summed a.u a.v a.w c.sum.result (sym (number_is e.before) ∙ e.if1.false)
-    (added a.u a.v a.w c.sum.result t.before.moon-part.result t.sun-part.result c.sum.ensures (moon-is t.before) (sun-is t))
+    summed c.args.u c.args.v c.args.w c.sum.result (sym (number_is c.before.before.before.before) ∙ c.if-number-ne0.false)
+    (added c.args.u c.args.v c.args.w c.sum.result c.moon_part.result c.sun_part.result c.sum.ensures (moon-is c.before.before) (sun-is c.before))
 
-pub pair-tide-spec : {M : Type 1} → statement M
-pair-tide-spec =
+pub pair_tide_spec : {M : Type 1} → statement M
+pair_tide_spec =
     tie.close
     (tie.spec (λ c κs. search rules) (λ c κs. search rules) (λ c κs. search rules) returns moon-part-requires sun-part-requires sum-requires returns-2)

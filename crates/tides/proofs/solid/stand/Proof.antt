@@ -26,8 +26,8 @@ distance : (s : Sight) (r : ℕ) → r ≡ root s.squares → Reached 146000000 
 unfolding length_of
 distance s r e h = e ∙ ap root h.squares
 
-far : (c : tie.After-root) → length_of c.before.args.s.at ≡ c.root.result
-far c = sym (distance c.before.args.s c.root.result c.root.ensures c.before.requires.1.1.1)
+far : (c : tie.After-root-r) → length_of c.args.s.at ≡ c.root-r.result
+far c = sym (distance c.args.s c.root-r.result c.root-r.ensures c.requires.1.1.1)
 
 -- ---- R0 E
 
@@ -47,34 +47,27 @@ named r0 q c u v d r e p h k =
 
 -- ---- the needs
 
-units-requires : tie.Need-units-requires
+units-requires : tie.Need-units-d-requires
 units-requires c κs =
-    let t = c.before in
-    let s = t.before in
-    let w = length-within t.root.result s.args.s.at (far t) in
-    let h = s.requires.1.1.1.most in
-    let e = far t in
+    let w = length-within c.root-r.result c.args.s.at (far c.before.before) in
+    let h = c.requires.1.1.1.most in
+    let e = far c.before.before in
     record { x = omega (arith, w.x, h, e); y = omega (arith, w.y, h, e); z = omega (arith, w.z, h, e) }
 
-cosine-requires : tie.Need-cosine-requires
+cosine-requires : tie.Need-cosine-c-requires
 cosine-requires c κs =
-    let t = c.before.before in
-    let s = t.before in
-    (s.requires.1.1.0.each, subst⁻¹ (λ (w : Vec3). Within E w) c.units.ensures (direction-within t.root.result s.args.s.at (far t)))
+    (c.requires.1.1.0.each, subst⁻¹ (λ (w : Vec3). Within E w) c.units-d.ensures (direction-within c.root-r.result c.args.s.at (far c.before.before.before)))
 
 returns : tie.Need-returns
 returns c =
-    let n = c.before.before in
-    let t = n.before in
-    let s = t.before in
-    named s.args.r0 _ _ s.args.u s.args.s.at c.before.units.result t.root.result s.requires.1.0
-    (answered n.near.result n.near.type_inv ∙ n.near.ensures ∙ ap (λ (z : ℤ). near z t.root.result) (at (product s) (product-fits s)).told)
-    c.before.units.ensures
-    (answered c.cosine.result c.cosine.type_inv ∙ c.cosine.ensures)
-    ∙ ap (standing (nat_abs s.args.r0) s.args.u s.args.s.at) (sym (far t))
+    named c.args.r0 _ _ c.args.u c.args.s.at c.units-d.result c.root-r.result c.requires.1.0
+    (answered c.near-q.result c.near-q.type_inv ∙ c.near-q.ensures ∙ ap (λ (z : ℤ). near z c.root-r.result) (at (product c.before.before.before.before.before) (product-fits c.before.before.before.before.before)).told)
+    c.units-d.ensures
+    (answered c.cosine-c.result c.cosine-c.type_inv ∙ c.cosine-c.ensures)
+    ∙ ap (standing (nat_abs c.args.r0) c.args.u c.args.s.at) (sym (far c.before.before.before.before))
 
-pub stand-spec : {M : Type 1} → statement M
-stand-spec =
+pub stand_spec : {M : Type 1} → statement M
+stand_spec =
     tie.close
     (tie.spec (λ c κs. search rules) (λ c. fit (product c.before) (product-fits c.before)) (λ c κs. search rules) units-requires cosine-requires
     returns)

@@ -24,11 +24,10 @@ zs s = added s.args.v.z s.args.w.z s.requires.0.z s.requires.1.z
 returns : tie.Need-returns
 unfolding plus
 returns c =
-    let s = c.before.before.before.before.before.before.before.before.before.before.before.before in
-    vec≡ (at (xs s) (lit< tt)).told (at (ys s) (lit< tt)).told (at (zs s) (lit< tt)).told
+    vec≡ (at (xs c.before.before.before.before.before.before.before.before.before.before.before.before) (lit< tt)).told (at (ys c.before.before.before.before.before.before.before.before.before.before.before.before) (lit< tt)).told (at (zs c.before.before.before.before.before.before.before.before.before.before.before.before) (lit< tt)).told
 
-pub sum-spec : {M : Type 1} → statement M
-sum-spec =
+pub sum_spec : {M : Type 1} → statement M
+sum_spec =
     tie.close
     (tie.spec (λ c. fit (xs c.before.before.before.before) (lit< tt))
     (λ c. fit (ys c.before.before.before.before.before.before.before.before) (lit< tt))

@@ -2,20 +2,20 @@
 use mathlib.Core.Path.{◌≡◌, refl, sym, ap, ◌∙◌}
 use mathlib.Core.Bool.{Bool, true, false, cond}
 use Prim.Native.Nat.{◌^◌}
-use borrow.Author.Rules.{rules}
-use lib.Dec.{leb}
+use lib.Dec.{leb, lit<}
 use lib.IntN.{ℤ, pos, nat_abs}
 use lib.Ieee.{Float}
-use Rattle.algebra.proofs.Machine.{answered}
+use Rattle.algebra.proofs.Machine.{at, plain}
 use Rattle.tides.specs.declared.bodies.Coordinate.{Coordinate}
 use Rattle.tides.specs.Bodies.{is_number, number_of}
 use Rattle.tides.specs.Steps.{clipped, coordinate_of}
+use mir.Syntax.{w64}
+use mir.Val.{to_z, of_z}
 use Rattle.numbers.specs.declared.Rounded.{Rounded}
 use Rattle.numbers.specs.declared.Rounded.TheVariants.{NotFinite, Far, Number}
 use Rattle.numbers.specs.Whole.{Nearest, none, some, whole_of, Means, shown}
 use Rattle.numbers.proofs.WholeLaws.{means-shown}
-use Rattle.tides.proofs.bodies.whole_of.Statement.{statement}
-use Rattle.tides.proofs.bodies.whole_of.Tie as tie
+use Rattle.tides.proofs.bodies.whole_of.Goals as goal
 
 abbrev coordinate : Bool → ℤ → Coordinate
 coordinate f z = record { finite = f; value = z }
@@ -36,22 +36,22 @@ unfolding shown clipped
 told_is none = refl
 told_is (some z) = told-some (leb (nat_abs z) (2 ^ 30)) z
 
-from : (x : Float) (r q : Rounded) → q ≡ r → Means q (whole_of x) → told r ≡ coordinate_of x
+from : (x : Float) (r : Rounded) → Means r (whole_of x) → told r ≡ coordinate_of x
 unfolding coordinate_of
-from x r q e m = ap told (sym e ∙ means-shown q (whole_of x) m) ∙ told_is (whole_of x)
+from x r m = ap told (means-shown r (whole_of x) m) ∙ told_is (whole_of x)
 
-enum_told : tie.Need-enum-told
-enum_told c = search rules
+-- within 2^30 the machine's number is the number
+near_told : (z : ℤ) (n : Nearest) → Means (Number z) n → to_z w64 (of_z w64 z) ≡ z
+unfolding Means
+near_told z n m = (at (plain z m.1) (lit< tt)).told
 
-returns-3 : tie.Need-returns-3
-returns-3 c =
-    let z = c.before.w.given.0.0 in
-    ap (coordinate true) (answered z c.known-told.given.0.1)
-    ∙ from c.before.before.before.before.args.x (Number z) c.before.before.before.whole.result c.before.w.given.1 c.before.before.before.whole.ensures
+pub returns-in-NotFinite : goal.returns-in-NotFinite
+returns-in-NotFinite c = from c.args.x NotFinite c.in-NotFinite.ensures
 
-pub whole-of-spec : {M : Type 1} → statement M
-whole-of-spec =
-    tie.close
-    (tie.spec (λ c κs. search rules) enum_told (λ c. search rules) (λ c. search rules)
-    (λ c. from c.before.before.before.args.x NotFinite c.before.before.whole.result c.enum_told.given.1 c.before.before.whole.ensures)
-    (λ c. from c.before.before.before.args.x Far c.before.before.whole.result c.enum-told2.given.1 c.before.before.whole.ensures) returns-3)
+pub returns-in-Far : goal.returns-in-Far
+returns-in-Far c = from c.args.x Far c.in-Far.ensures
+
+pub returns-in-Number : goal.returns-in-Number
+returns-in-Number c =
+    ap (coordinate true) (near_told c.in-Number.z (whole_of c.args.x) c.in-Number.ensures)
+    ∙ from c.args.x (Number c.in-Number.z) c.in-Number.ensures
