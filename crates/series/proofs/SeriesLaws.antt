@@ -34,9 +34,9 @@ use Rattle.numbers.specs.Whole.{whole_of}
 
 module _ (b : List Float) (i : ℕ) where
   -- as the steps find it
-  pub row_number : (v w : BodyVector) (n : ℕ) → v ≡ moon_at b i → w ≡ sun_at b i → n ≡ bodies_number v w → n ≡ row_number b i
+  pub row_number_lem : (v w : BodyVector) (n : ℕ) → v ≡ moon_at b i → w ≡ sun_at b i → n ≡ bodies_number v w → n ≡ row_number b i
   unfolding row_number
-  row_number v w n ev ew en = en ∙ ap₂ bodies_number ev ew
+  row_number_lem v w n ev ew en = en ∙ ap₂ bodies_number ev ew
 
   -- the double at place k
   abbrev double : ℕ → Bool
@@ -152,9 +152,9 @@ unfolding rows_fit
 no-three d n h = and_second (eqb d (6 * (n / 3))) (eqb n (3 * (n / 3))) (ne_eqb n (3 * (n / 3)) h)
 
 -- the lengths fit exactly when there is a count of rows with six doubles and three numbers each
-pub rows_fit : (d n : ℕ) → (rows_fit d n ≡ true) ↔ ((rows : ℕ) × ((d ≡ 6 * rows) × (n ≡ 3 * rows)))
+pub rows_fit_lem : (d n : ℕ) → (rows_fit d n ≡ true) ↔ ((rows : ℕ) × ((d ≡ 6 * rows) × (n ≡ 3 * rows)))
 unfolding rows_fit
-rows_fit d n = (there, back)
+rows_fit_lem d n = (there, back)
   where
     there : eqb d (6 * (n / 3)) && eqb n (3 * (n / 3)) ≡ true → (rows : ℕ) × ((d ≡ 6 * rows) × (n ≡ 3 * rows))
     there e =

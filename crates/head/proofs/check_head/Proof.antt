@@ -33,63 +33,50 @@ from3 g b e m = (3, not (known_frame g)) ∷ from4 b e m
 
 -- ---- the tests
 
-site-is : (c : tie.After-is-site) → c.is-site.result ≡ site_shape c.before.before.args.t1
-site-is c = c.is-site.ensures
+site-is : (c : tie.After-is_site) → c.is_site.result ≡ site_shape c.args.site
+site-is c = c.is_site.ensures
 
-on1 : (c : tie.Else1) → let a = c.before.before.before.args in
-    first (from3 a.frame a.fits a.epoch a.mark) ≡ first (head_checks a.t1 a.frame a.fits a.epoch a.mark)
+on1 : (c : tie.Else-not-is_site) → first (from3 c.args.frame c.args.fits c.args.epoch c.args.mark) ≡ first (head_checks c.args.site c.args.frame c.args.fits c.args.epoch c.args.mark)
 on1 c =
-    let a = c.before.before.before.args in
-    passed 2 (site_shape a.t1) (from3 a.frame a.fits a.epoch a.mark) (sym (site-is c.before) ∙ not-false c.before.is-site.result c.if1.false)
+    passed 2 (site_shape c.args.site) (from3 c.args.frame c.args.fits c.args.epoch c.args.mark) (sym (site-is c.before) ∙ c.if-not-is_site.false)
 
-returns : tie.Need-returns
+returns : tie.Need-returns-then-not-is_site
 returns c =
-    let a = c.before.before.before.args in
-    stopped 2 (site_shape a.t1) (from3 a.frame a.fits a.epoch a.mark) (sym (site-is c.before) ∙ not-true c.before.is-site.result c.if1.true)
+    stopped 2 (site_shape c.args.site) (from3 c.args.frame c.args.fits c.args.epoch c.args.mark) (sym (site-is c.before) ∙ c.if-not-is_site.true)
 
-on2 : (c : tie.Else2) → let a = c.before.before.before.before.args in
-    first (from4 a.fits a.epoch a.mark) ≡ first (head_checks a.t1 a.frame a.fits a.epoch a.mark)
+on2 : (c : tie.Else-frame-gt-LAST_FRAME) → first (from4 c.args.fits c.args.epoch c.args.mark) ≡ first (head_checks c.args.site c.args.frame c.args.fits c.args.epoch c.args.mark)
 on2 c =
-    let a = c.before.before.before.before.args in
-    passed 3 (known_frame a.frame) (from4 a.fits a.epoch a.mark) (frame-known a.frame c.if2.false) ∙ on1 c.before
+    passed 3 (known_frame c.args.frame) (from4 c.args.fits c.args.epoch c.args.mark) (frame-known c.args.frame c.if-frame-gt-LAST_FRAME.false) ∙ on1 c.before
 
-returns-2 : tie.Need-returns-2
+returns-2 : tie.Need-returns-then-frame-gt-LAST_FRAME
 returns-2 c =
-    let a = c.before.before.before.before.args in
-    stopped 3 (known_frame a.frame) (from4 a.fits a.epoch a.mark) (frame-unknown a.frame c.if2.true) ∙ on1 c.before
+    stopped 3 (known_frame c.args.frame) (from4 c.args.fits c.args.epoch c.args.mark) (frame-unknown c.args.frame c.if-frame-gt-LAST_FRAME.true) ∙ on1 c.before
 
-on3 : (c : tie.Else3) → let a = c.before.before.before.before.before.args in
-    first (from5 a.epoch a.mark) ≡ first (head_checks a.t1 a.frame a.fits a.epoch a.mark)
+on3 : (c : tie.Else-not-fits) → first (from5 c.args.epoch c.args.mark) ≡ first (head_checks c.args.site c.args.frame c.args.fits c.args.epoch c.args.mark)
 on3 c =
-    let a = c.before.before.before.before.before.args in
-    passed 4 a.fits (from5 a.epoch a.mark) (not-false a.fits c.if3.false) ∙ on2 c.before
+    passed 4 c.args.fits (from5 c.args.epoch c.args.mark) (c.if-not-fits.false) ∙ on2 c.before
 
-returns-3 : tie.Need-returns-3
+returns-3 : tie.Need-returns-then-not-fits
 returns-3 c =
-    let a = c.before.before.before.before.before.args in
-    stopped 4 a.fits (from5 a.epoch a.mark) (not-true a.fits c.if3.true) ∙ on2 c.before
+    stopped 4 c.args.fits (from5 c.args.epoch c.args.mark) (c.if-not-fits.true) ∙ on2 c.before
 
-epoch-is : (c : tie.After-epoch-fits) → c.epoch-fits.result ≡ epoch_fits c.before.before.before.before.before.before.args.epoch
-epoch-is c = c.epoch-fits.ensures ∙ ap epoch_fits (to_z-of_z c.before.before.before.before.before.before.ranges.epoch)
+epoch-is : (c : tie.After-epoch_fits) → c.epoch_fits.result ≡ epoch_fits c.args.epoch
+epoch-is c = c.epoch_fits.ensures ∙ ap epoch_fits (to_z-of_z c.ranges.epoch)
 
-returns-4 : tie.Need-returns-4
+returns-4 : tie.Need-returns-then-not-epoch_fits
 returns-4 c =
-    let t = c.before in
-    let a = t.before.before.before.before.before.before.args in
-    stopped 5 (epoch_fits a.epoch) (from6 a.mark) (sym (epoch-is t) ∙ not-true t.epoch-fits.result c.if4.true) ∙ on3 t.before
+    stopped 5 (epoch_fits c.args.epoch) (from6 c.args.mark) (sym (epoch-is c.before) ∙ c.if-not-epoch_fits.true) ∙ on3 c.before.before
 
 last : (m : Vec3) → mark_number m ≡ first (from6 m)
 unfolding mark_number
 last m = refl
 
-returns-5 : tie.Need-returns-5
+returns-5 : tie.Need-returns
 returns-5 c =
-    let t = c.before.before in
-    let a = t.before.before.before.before.before.before.args in
-    c.check-mark.ensures ∙ last a.mark
-    ∙ passed 5 (epoch_fits a.epoch) (from6 a.mark) (sym (epoch-is t) ∙ not-false t.epoch-fits.result c.before.if4.false) ∙ on3 t.before
+    c.check_mark.ensures ∙ last c.args.mark
+    ∙ passed 5 (epoch_fits c.args.epoch) (from6 c.args.mark) (sym (epoch-is c.before.before) ∙ c.if-not-epoch_fits.false) ∙ on3 c.before.before.before
 
-pub check-head-spec : {M : Type 1} → statement M
-check-head-spec =
+pub check_head_spec : {M : Type 1} → statement M
+check_head_spec =
     tie.close
     (tie.spec (λ c. search rules) (λ c κs. search rules) returns returns-2 returns-3 (λ c κs. search rules) returns-4 (λ c κs. search rules) returns-5)

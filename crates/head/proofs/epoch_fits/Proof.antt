@@ -14,7 +14,7 @@ unfolding epoch_fits
 named r e h = ap (λ (k : ℕ). leb k 146100) h
 
 returns : tie.Need-returns
-returns c = named c.magnitude.result c.before.args.e (c.magnitude.ensures ∙ ap nat_abs (to_z-of_z c.before.ranges.e))
+returns c = named c.magnitude.result c.args.e (c.magnitude.ensures ∙ ap nat_abs (to_z-of_z c.ranges.e))
 
-pub epoch-fits-spec : {M : Type 1} → statement M
-epoch-fits-spec = tie.close (tie.spec (λ c κs. search rules) returns)
+pub epoch_fits_spec : {M : Type 1} → statement M
+epoch_fits_spec = tie.close (tie.spec (λ c κs. search rules) returns)

@@ -16,10 +16,10 @@ pub record Passed (s : List ℕ) (i : ℕ) : Type 0 where
   pub within : i ≤ 9
   pub left : shape_from s 0 9 ≡ shape_from s i (9 - i)
 
-abbrev invariant-loop : tie.invariant-loop
+abbrev invariant-loop : tie.invariant-loop-i
 invariant-loop s i₀ i = Passed s i
 
-abbrev decreases-loop : tie.decreases-loop
+abbrev decreases-loop : tie.decreases-loop-i
 decreases-loop s i₀ i = 9 - i
 
 unlike : (s : List ℕ) → (length s ≡ 9 → ⊥) → false ≡ site_shape s
@@ -41,33 +41,33 @@ none : (s : List ℕ) (i : ℕ) → 9 ≤ i → shape_from s i (9 - i) ≡ true
 unfolding shape_from
 none s i h = let e : 9 - i ≡ 0 = omega arith in rw e
 
-returns-2 : tie.Need-returns-2 invariant-loop decreases-loop
+returns-2 : tie.Need-returns-then-not-shape_at invariant-loop decreases-loop
 returns-2 c =
-    let s = c.before.before.before.before.before.before.before.args.s.now in
-    let l = c.before.before.before.before.loop in
-    sym (whole s l.invariant.nine ∙ l.invariant.left ∙ next s l.i c.before.before.before.loop-test.true
-    ∙ ap (λ (t : Bool). t && shape_from s (l.i + 1) (9 - (l.i + 1))) (sym c.before.shape_at.ensures ∙ not-true c.before.shape_at.result c.if2.true))
+    let s = c.args.s.now in
+    let l = c.loop-i in
+    sym (whole s l.invariant.nine ∙ l.invariant.left ∙ next s l.i c.loop-i-test.true
+    ∙ ap (λ (t : Bool). t && shape_from s (l.i + 1) (9 - (l.i + 1))) (sym c.shape_at.ensures ∙ c.if-not-shape_at.true))
 
-loop-again : tie.Need-loop-preserved invariant-loop decreases-loop
+loop-again : tie.Need-loop-i-preserved invariant-loop decreases-loop
 loop-again c =
-    let s = c.before.before.before.before.before.before.before.args.s.now in
-    let l = c.before.before.before.before.loop in
-    let h = c.before.before.before.loop-test.true in
+    let s = c.args.s.now in
+    let l = c.loop-i in
+    let h = c.loop-i-test.true in
     record {
       nine = l.invariant.nine;
       within = omega arith;
-      left = l.invariant.left ∙ next s l.i h ∙ ap (λ (t : Bool). t && shape_from s (l.i + 1) (9 - (l.i + 1))) (sym c.before.shape_at.ensures ∙ not-false c.before.shape_at.result c.if2.false);
+      left = l.invariant.left ∙ next s l.i h ∙ ap (λ (t : Bool). t && shape_from s (l.i + 1) (9 - (l.i + 1))) (sym c.shape_at.ensures ∙ c.if-not-shape_at.false);
     }
 
-returns-3 : tie.Need-returns-3 invariant-loop decreases-loop
+returns-3 : tie.Need-returns invariant-loop decreases-loop
 returns-3 c =
-    let s = c.before.before.before.before.args.s.now in
-    let l = c.before.loop in
-    sym (whole s l.invariant.nine ∙ l.invariant.left ∙ none s l.i c.loop-test.false)
+    let s = c.args.s.now in
+    let l = c.loop-i in
+    sym (whole s l.invariant.nine ∙ l.invariant.left ∙ none s l.i c.loop-i-test.false)
 
-pub is-site-spec : {M : Type 1} → statement M
-is-site-spec =
+pub is_site_spec : {M : Type 1} → statement M
+is_site_spec =
     tie.close
-    (tie.spec invariant-loop decreases-loop (λ c. unlike c.before.before.args.s.now c.if1.true)
-    (λ c. record { nine = c.if1.false; within = omega arith; left = refl }) (λ c. omega arith) (λ c κs. search rules) returns-2 (λ c. omega arith)
+    (tie.spec invariant-loop decreases-loop (λ c. unlike c.args.s.now c.if-s-ne9.true)
+    (λ c. record { nine = c.if-s-ne9.false; within = omega arith; left = refl }) (λ c. omega arith) (λ c κs. search rules) returns-2 (λ c. omega arith)
     (λ c. omega arith) loop-again returns-3)

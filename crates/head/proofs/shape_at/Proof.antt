@@ -23,10 +23,10 @@ low : (i b : ℕ) → (i ≡ 5 → ⊥) → b < 48 → leb 48 b ≡ shape_at i b
 unfolding shape_at digit
 low i b n h = rw (ne_eqb i 5 n, lt-leb 48 b h)
 
-pub shape-at-spec : {M : Type 1} → statement M
-shape-at-spec =
+pub shape_at_spec : {M : Type 1} → statement M
+shape_at_spec =
     tie.close
-    (tie.spec (λ c. letter-m c.before.before.args.i c.before.before.args.b c.before.if1.true c.if2.true)
-    (λ c. letter-s c.before.before.args.i c.before.before.args.b c.before.if1.true c.if2.false)
-    (λ c. high c.before.before.args.i c.before.before.args.b c.before.if1.false c.if3.true)
-    (λ c. low c.before.before.args.i c.before.before.args.b c.before.if1.false c.if3.false))
+    (tie.spec (λ c. letter-m c.args.i c.args.b c.if-i-eq5.true c.if-b-eq77.true)
+    (λ c. letter-s c.args.i c.args.b c.if-i-eq5.true c.if-b-eq77.false)
+    (λ c. high c.args.i c.args.b c.if-i-eq5.false c.if-b-ge48.true)
+    (λ c. low c.args.i c.args.b c.if-i-eq5.false c.if-b-ge48.false))

@@ -16,63 +16,53 @@ use Rattle.series.proofs.series.Tie as tie
 
 -- ---- past each check
 
-mark-in : (c : tie.Else1) → marked c.before.before.before.before.args.m ≡ true
-mark-in c = aim-marked c.before.before.before.before.args.m c.before.before.direction-of.result c.before.before.direction-of.ensures c.if1.false
+mark-in : (c : tie.Else-aim-ne0) → marked c.args.m ≡ true
+mark-in c = aim-marked c.args.m c.direction_of-aim.result c.direction_of-aim.ensures c.if-aim-ne0.false
 
-even : (c : tie.Else3) → rows_fit (length c.before.before.before.before.before.before.args.bodies.now) (length c.before.before.before.before.before.before.args.out.now) ≡ true
+even : (c : tie.Else-out-rows) → rows_fit (length c.args.bodies.now) (length c.args.out.now) ≡ true
 even c =
-    let a = c.before.before.before.before.before.before.args in
-    fits (length a.bodies.now) (length a.out.now) c.before.if2.false c.if3.false
+    fits (length c.args.bodies.now) (length c.args.out.now) c.if-bodies-rows.false c.if-out-rows.false
 
-scanned : (c : tie.After-scan) → c.scan.result ≡ series_answer c.before.before.before.before.before.before.before.args.m c.before.before.before.before.before.before.before.args.bodies.now (length c.before.before.before.before.before.before.before.args.out.now)
+scanned : (c : tie.After-scan-seen) → c.scan-seen.result ≡ series_answer c.args.m c.args.bodies.now (length c.args.out.now)
 scanned c =
-    let a = c.before.before.before.before.before.before.before.args in
-    c.scan.ensures ∙ series-scanned a.m a.bodies.now (length a.out.now) (mark-in c.before.before.before) (even c.before)
+    c.scan-seen.ensures ∙ series-scanned c.args.m c.args.bodies.now (length c.args.out.now) (mark-in c.before.before.before) (even c.before)
 
-returns : tie.Need-returns
+returns : tie.Need-returns-then-aim-ne0
 returns c =
-    let a = c.before.before.before.before.args in
-    let r : answer 6 0 ≡ series_answer a.m a.bodies.now (length a.out.now) = series-unmarked a.m a.bodies.now (length a.out.now) (aim-unmarked a.m c.before.before.direction-of.result c.before.before.direction-of.ensures c.if1.true) in
+    let a = c.args in
+    let r : answer 6 0 ≡ series_answer a.m a.bodies.now (length a.out.now) = series-unmarked a.m a.bodies.now (length a.out.now) (aim-unmarked a.m c.direction_of-aim.result c.direction_of-aim.ensures c.if-aim-ne0.true) in
     (r, kept a.m a.bodies.now a.out.now (answer 6 0) r (eqb-false 6 0 refl))
 
-returns-2 : tie.Need-returns-2
+returns-2 : tie.Need-returns-then-bodies-rows
 returns-2 c =
-    let a = c.before.before.before.before.before.args in
-    let r : answer 16 0 ≡ series_answer a.m a.bodies.now (length a.out.now) = series-uneven a.m a.bodies.now (length a.out.now) (mark-in c.before) (no_six (length a.bodies.now) (length a.out.now) c.if2.true) in
+    let a = c.args in
+    let r : answer 16 0 ≡ series_answer a.m a.bodies.now (length a.out.now) = series-uneven a.m a.bodies.now (length a.out.now) (mark-in c.before) (no_six (length a.bodies.now) (length a.out.now) c.if-bodies-rows.true) in
     (r, kept a.m a.bodies.now a.out.now (answer 16 0) r (eqb-false 16 0 refl))
 
-returns-3 : tie.Need-returns-3
+returns-3 : tie.Need-returns-then-out-rows
 returns-3 c =
-    let a = c.before.before.before.before.before.before.args in
-    let r : answer 16 0 ≡ series_answer a.m a.bodies.now (length a.out.now) = series-uneven a.m a.bodies.now (length a.out.now) (mark-in c.before.before) (no-three (length a.bodies.now) (length a.out.now) c.if3.true) in
+    let a = c.args in
+    let r : answer 16 0 ≡ series_answer a.m a.bodies.now (length a.out.now) = series-uneven a.m a.bodies.now (length a.out.now) (mark-in c.before.before) (no-three (length a.bodies.now) (length a.out.now) c.if-out-rows.true) in
     (r, kept a.m a.bodies.now a.out.now (answer 16 0) r (eqb-false 16 0 refl))
 
-returns-4 : tie.Need-returns-4
+returns-4 : tie.Need-returns-then-seen-ne0
 returns-4 c =
-    let s = c.before.before in
-    let a = s.before.before.before.before.before.before.before.args in
-    (scanned s, kept a.m a.bodies.now a.out.now s.scan.result (scanned s) c.if4.true)
+    (scanned c.before.before, kept c.args.m c.args.bodies.now c.args.out.now c.scan-seen.result (scanned c.before.before) c.if-seen-ne0.true)
 
 fill-requires : tie.Need-fill-requires
 fill-requires c κs =
-    let e = c.before.before.before.before in
-    (e.before.if2.false, e.if3.false)
+    (c.if-bodies-rows.false, c.if-out-rows.false)
 
-returns-5 : tie.Need-returns-5
-returns-5 c =
-    let f = c.before.before in
-    let s = f.before.before.before in
-    let k = s.before.before.before in
-    let d = k.before.before in
-    let a = d.before.before.args in (
-      scanned s,
-      c.before.fill.ensures
-          ∙ ap (λ (w : Vec3). shifts_from w a.bodies.now 0 (length a.out.now / 3)) (aim-is a.m d.direction-of.result d.direction-of.ensures (mark-in k))
-          ∙ filled a.m a.bodies.now (mark-in k) a.out.now s.scan.result s.scan.ensures (scanned s) f.before.if4.false,
-    )
+returns-5 : tie.Need-returns
+returns-5 c = (
+  scanned c.before.before.before.before.before.before,
+  c.fill.ensures
+      ∙ ap (λ (w : Vec3). shifts_from w c.args.bodies.now 0 (length c.args.out.now / 3)) (aim-is c.args.m c.direction_of-aim.result c.direction_of-aim.ensures (mark-in c.before.before.before.before.before.before.before.before.before))
+      ∙ filled c.args.m c.args.bodies.now (mark-in c.before.before.before.before.before.before.before.before.before) c.args.out.now c.scan-seen.result c.scan-seen.ensures (scanned c.before.before.before.before.before.before) c.if-seen-ne0.false,
+)
 
-pub series-spec : {M : Type 1} → statement M
-series-spec =
+pub series_spec : {M : Type 1} → statement M
+series_spec =
     tie.close
     (tie.spec (λ c κs. search rules) returns (λ c. search rules) returns-2 (λ c. search rules) returns-3 (λ c κs. search rules) returns-4
     fill-requires (λ c. search rules) returns-5)
