@@ -4,7 +4,7 @@ use Rattle.card.proofs.StepLaws.{number_is}
 use Rattle.card.proofs.Card.check.Statement.{statement}
 use Rattle.card.proofs.Card.check.Tie as tie
 
-pub check-spec : {M : Type 1} → statement M
-check-spec =
+pub check_spec : {M : Type 1} → statement M
+check_spec =
     tie.close
-    (tie.spec (λ c κs. search rules) (λ c. number_is c.before.args.self c.refusal-of.result c.refusal-of.ensures))
+    (tie.spec (λ c κs. search rules) (λ c. number_is c.args.self c.refusal_of.result c.refusal_of.ensures))

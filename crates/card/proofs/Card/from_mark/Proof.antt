@@ -27,23 +27,23 @@ accepted : (c : Card) (v : Vec3) → card_number c ≡ 0 → v ≡ from_mark c.m
 unfolding offset_answer
 accepted c v h e = rw (h, e)
 
-returns : tie.Need-returns
+returns : tie.Need-returns-then-number-ne0
 returns c =
-    let a = c.before.before.args.self in
-    let n = c.before.refusal-of in
-    refused a n.result (number_is a n.result n.ensures) c.if1.true
+    let a = c.args.self in
+    let n = c.refusal_of-number in
+    refused a n.result (number_is a n.result n.ensures) c.if-number-ne0.true
 
-from-mark-requires : tie.Need-from-mark-requires
+from-mark-requires : tie.Need-from_mark-requires
 from-mark-requires c κs =
-    let n = c.before.refusal-of in
-    let s = valid-small c.before.before.args.self (number-passes c.before.before.args.self n.result n.ensures c.if1.false) in
+    let n = c.refusal_of-number in
+    let s = valid-small c.args.self (number-passes c.args.self n.result n.ensures c.if-number-ne0.false) in
     (within-sized s.mark, within-sized (widen s.position (lit≤ tt)))
 
-returns-2 : tie.Need-returns-2
+returns-2 : tie.Need-returns
 returns-2 c =
-    let a = c.before.before.before.args.self in
-    let n = c.before.before.refusal-of in
-    accepted a c.from-mark.result (sym (number_is a n.result n.ensures) ∙ c.before.if1.false) c.from-mark.ensures
+    let a = c.args.self in
+    let n = c.refusal_of-number in
+    accepted a c.from_mark.result (sym (number_is a n.result n.ensures) ∙ c.if-number-ne0.false) c.from_mark.ensures
 
-pub from-mark-spec : {M : Type 1} → statement M
-from-mark-spec = tie.close (tie.spec (λ c κs. search rules) returns from-mark-requires returns-2)
+pub from_mark_spec : {M : Type 1} → statement M
+from_mark_spec = tie.close (tie.spec (λ c κs. search rules) returns from-mark-requires returns-2)

@@ -9,10 +9,10 @@ use Rattle.card.proofs.StepLaws.{step-refused, step-accepted, number-passes}
 use Rattle.card.proofs.Card.move_by.Statement.{statement}
 use Rattle.card.proofs.Card.move_by.Tie as tie
 
-pub move-by-spec : {M : Type 1} → statement M
-move-by-spec =
+pub move_by_spec : {M : Type 1} → statement M
+move_by_spec =
     tie.close
-    (tie.spec (λ c κs. search rules) (λ c. step-refused _ _ _ c.before.refusal-of.ensures c.if1.true)
-    (λ c κs. number-passes _ _ c.before.refusal-of.ensures c.if1.false)
-    (λ c. let n = c.before.before in c.moved.ensures ∙ ap (λ (d : ℤ). after n.before.args.self (move d)) (to_z-of_z n.before.ranges.d)
-    ∙ step-accepted _ (move n.before.args.d) _ n.refusal-of.ensures c.before.if1.false))
+    (tie.spec (λ c κs. search rules) (λ c. step-refused _ _ _ c.refusal_of-number.ensures c.if-number-ne0.true)
+    (λ c κs. number-passes _ _ c.refusal_of-number.ensures c.if-number-ne0.false)
+    (λ c. c.moved.ensures ∙ ap (λ (d : ℤ). after c.args.self (move d)) (to_z-of_z c.ranges.d)
+    ∙ step-accepted _ (move c.args.d) _ c.refusal_of-number.ensures c.if-number-ne0.false))

@@ -5,9 +5,9 @@ use Rattle.card.proofs.StepLaws.{step-refused, step-accepted, number-passes}
 use Rattle.card.proofs.Card.to_frame.Statement.{statement}
 use Rattle.card.proofs.Card.to_frame.Tie as tie
 
-pub to-frame-spec : {M : Type 1} → statement M
-to-frame-spec =
+pub to_frame_spec : {M : Type 1} → statement M
+to_frame_spec =
     tie.close
-    (tie.spec (λ c κs. search rules) (λ c. step-refused _ _ _ c.before.refusal-of.ensures c.if1.true)
-    (λ c κs. number-passes _ _ c.before.refusal-of.ensures c.if1.false)
-    (λ c. let n = c.before.before in c.reframed.ensures ∙ step-accepted _ _ _ n.refusal-of.ensures c.before.if1.false))
+    (tie.spec (λ c κs. search rules) (λ c. step-refused _ _ _ c.refusal_of-number.ensures c.if-number-ne0.true)
+    (λ c κs. number-passes _ _ c.refusal_of-number.ensures c.if-number-ne0.false)
+    (λ c. c.reframed.ensures ∙ step-accepted _ _ _ c.refusal_of-number.ensures c.if-number-ne0.false))

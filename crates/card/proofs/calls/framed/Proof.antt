@@ -26,31 +26,30 @@ rate-small c = frame-b-within c.args.frame c.args.c.mark (small c).mark
 epoch-is : (c : tie.Start) → rd c.args.c.epoch ≡ c.args.c.epoch
 epoch-is c = (at (plain c.args.c.epoch (small c).epoch) (lit< tt)).told
 
-a-is : (c : tie.After-frame-terms) → c.frame-terms.result.a ≡ frame_a c.before.args.frame c.before.args.c.mark
-a-is c = let s = c.before in terms-a s.args.frame s.args.c.mark _ s.requires.1 (valid-passed s.args.c s.requires.0).mark c.frame-terms.ensures
+a-is : (c : tie.After-frame_terms-t) → c.frame_terms-t.result.a ≡ frame_a c.args.frame c.args.c.mark
+a-is c = terms-a c.args.frame c.args.c.mark _ c.requires.1 (valid-passed c.args.c c.requires.0).mark c.frame_terms-t.ensures
 
-b-is : (c : tie.After-frame-terms) → c.frame-terms.result.b ≡ frame_b c.before.args.frame c.before.args.c.mark
-b-is c = let s = c.before in terms-b s.args.frame s.args.c.mark _ s.requires.1 (valid-passed s.args.c s.requires.0).mark c.frame-terms.ensures
+b-is : (c : tie.After-frame_terms-t) → c.frame_terms-t.result.b ≡ frame_b c.args.frame c.args.c.mark
+b-is c = terms-b c.args.frame c.args.c.mark _ c.requires.1 (valid-passed c.args.c c.requires.0).mark c.frame_terms-t.ensures
 
-drift-is : (c : tie.After-scaled) → c.scaled.result ≡ scaled c.before.before.before.before.args.c.epoch (frame_b c.before.before.before.before.args.frame c.before.before.before.before.args.c.mark)
-drift-is c = c.scaled.ensures ∙ ap₂ scaled (epoch-is c.before.before.before.before) (b-is c.before.before.before)
+drift-is : (c : tie.After-scaled) → c.scaled.result ≡ scaled c.args.c.epoch (frame_b c.args.frame c.args.c.mark)
+drift-is c = c.scaled.ensures ∙ ap₂ scaled (epoch-is c.before.before.before.before.before.before) (b-is c.before.before.before.before)
 
 scaled-requires : tie.Need-scaled-requires
-scaled-requires c κs = let s = c.before.before.before in (omega (arith, (small s).epoch, ap nat_abs (epoch-is s)), sized-as (b-is c.before.before) (rate-small s) (lit≤ tt))
+scaled-requires c κs = (omega (arith, (small c.before.before.before.before.before).epoch, ap nat_abs (epoch-is c.before.before.before.before.before)), sized-as (b-is c.before.before.before) (rate-small c.before.before.before.before.before) (lit≤ tt))
 
-plus-requires : tie.Need-plus-requires
-plus-requires c κs =
-    let s = c.before.before.before.before in (
-      sized-as (a-is c.before.before.before) (frame-a-within s.args.frame s.args.c.mark (small s).mark) (lit≤ tt),
-      sized-as (drift-is c) (scaled-within s.args.c.epoch (small s).epoch (rate-small s)) (lit≤ tt),
-    )
+plus-requires : tie.Need-plus-at-requires
+plus-requires c κs = (
+  sized-as (a-is c.before.before.before.before) (frame-a-within c.args.frame c.args.c.mark (small c.before.before.before.before.before.before).mark) (lit≤ tt),
+  sized-as (drift-is c) (scaled-within c.args.c.epoch (small c.before.before.before.before.before.before).epoch (rate-small c.before.before.before.before.before.before)) (lit≤ tt),
+)
 
 abbrev made : Vec3 → Vec3 → AtEpoch
 made p r = record { at = p; rate = r }
 
 returns : tie.Need-returns
 unfolding frame_at
-returns c = ap₂ made (c.plus.ensures ∙ ap₂ plus (a-is c.before.before.before.before) (drift-is c.before)) (b-is c.before.before.before.before)
+returns c = ap₂ made (c.plus-at.ensures ∙ ap₂ plus (a-is c.before.before.before.before.before) (drift-is c.before)) (b-is c.before.before.before.before.before)
 
-pub framed-spec : {M : Type 1} → statement M
-framed-spec = tie.close (tie.spec (λ c κs. search rules) scaled-requires plus-requires returns)
+pub framed_spec : {M : Type 1} → statement M
+framed_spec = tie.close (tie.spec (λ c κs. search rules) scaled-requires plus-requires returns)

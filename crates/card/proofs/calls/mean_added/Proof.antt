@@ -5,13 +5,12 @@ use Rattle.card.proofs.StepLaws.{mark-sized, addable, mean-small, mean-on-is}
 use Rattle.card.proofs.calls.mean_added.Statement.{statement}
 use Rattle.card.proofs.calls.mean_added.Tie as tie
 
-plus-requires : tie.Need-plus-requires
-plus-requires c κs = let s = c.before in addable s.args.c s.requires (mean-small s.args.c s.requires _ c.permanent.ensures)
+plus-requires : tie.Need-plus-p-requires
+plus-requires c κs = addable c.args.c c.requires (mean-small c.args.c c.requires _ c.permanent-s.ensures)
 
 returns : tie.Need-returns
 returns c =
-    let t = c.before.before in
-    c.retided.ensures ∙ mean-on-is t.before.args.c t.before.requires _ t.permanent.ensures _ c.before.plus.ensures
+    c.retided.ensures ∙ mean-on-is c.args.c c.requires _ c.permanent-s.ensures _ c.plus-p.ensures
 
-pub mean-added-spec : {M : Type 1} → statement M
-mean-added-spec = tie.close (tie.spec (λ c κs. search rules) plus-requires (λ c κs. let s = c.before.before in mark-sized s.args.c s.requires) returns)
+pub mean_added_spec : {M : Type 1} → statement M
+mean_added_spec = tie.close (tie.spec (λ c κs. search rules) plus-requires (λ c κs. mark-sized c.args.c c.requires) returns)

@@ -5,13 +5,12 @@ use Rattle.card.proofs.StepLaws.{mark-sized, addable, mean-small, mean-off-is}
 use Rattle.card.proofs.calls.mean_taken.Statement.{statement}
 use Rattle.card.proofs.calls.mean_taken.Tie as tie
 
-minus-requires : tie.Need-minus-requires
-minus-requires c κs = let s = c.before in addable s.args.c s.requires (mean-small s.args.c s.requires _ c.permanent.ensures)
+minus-requires : tie.Need-minus-p-requires
+minus-requires c κs = addable c.args.c c.requires (mean-small c.args.c c.requires _ c.permanent-s.ensures)
 
 returns : tie.Need-returns
 returns c =
-    let t = c.before.before in
-    c.retided.ensures ∙ mean-off-is t.before.args.c t.before.requires _ t.permanent.ensures _ c.before.minus.ensures
+    c.retided.ensures ∙ mean-off-is c.args.c c.requires _ c.permanent-s.ensures _ c.minus-p.ensures
 
-pub mean-taken-spec : {M : Type 1} → statement M
-mean-taken-spec = tie.close (tie.spec (λ c κs. search rules) minus-requires (λ c κs. let s = c.before.before in mark-sized s.args.c s.requires) returns)
+pub mean_taken_spec : {M : Type 1} → statement M
+mean_taken_spec = tie.close (tie.spec (λ c κs. search rules) minus-requires (λ c κs. mark-sized c.args.c c.requires) returns)

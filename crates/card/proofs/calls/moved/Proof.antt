@@ -23,85 +23,78 @@ small : (c : tie.Start) → Small c.args.c
 small c = valid-small c.args.c c.requires
 
 -- the move's size, as it came back
-size : (c : tie.After-magnitude) → c.magnitude.result ≡ nat_abs c.before.before.before.args.d
-size c = c.magnitude.ensures ∙ ap nat_abs (to_z-of_z c.before.before.before.ranges.d)
+size : (c : tie.After-magnitude) → c.magnitude.result ≡ nat_abs c.args.d
+size c = c.magnitude.ensures ∙ ap nat_abs (to_z-of_z c.ranges.d)
 
-short : (c : tie.Else2) → nat_abs c.before.before.before.before.args.d ≤ 292200
-short c = omega (arith, size c.before, c.if2.false)
+short : (c : tie.Else-magnitude-gt292200) → nat_abs c.args.d ≤ 292200
+short c = omega (arith, size c.before, c.if-magnitude-gt292200.false)
 
-later : (c : tie.After-struct-told) → Va (rd c.before.before.before.before.before.before.args.c.epoch +ℤ rd c.before.before.before.before.before.before.args.d) (c.before.before.before.before.before.before.args.c.epoch +ℤ c.before.before.before.before.before.before.args.d) (146100 + 292200)
-later c = v+ (at (plain c.before.before.before.before.before.before.args.c.epoch (small c.before.before.before.before.before.before).epoch) (lit< tt)) (at (plain c.before.before.before.before.before.before.args.d (short c.before.before)) (lit< tt))
+later : (c : tie.After-struct_told-1) → Va (rd c.args.c.epoch +ℤ rd c.args.d) (c.args.c.epoch +ℤ c.args.d) (146100 + 292200)
+later c = v+ (at (plain c.args.c.epoch (small c.before.before.before.before.before.before).epoch) (lit< tt)) (at (plain c.args.d (short c.before.before)) (lit< tt))
 
-epoch-is : (c : tie.After-epoch-fits) → c.epoch-fits.result ≡ epoch_fits (c.before.before.before.before.before.before.before.args.c.epoch +ℤ c.before.before.before.before.before.before.before.args.d)
-epoch-is c = c.epoch-fits.ensures ∙ ap epoch_fits (at (later c.before) (lit< tt)).told
+epoch-is : (c : tie.After-epoch_fits) → c.epoch_fits.result ≡ epoch_fits (c.args.c.epoch +ℤ c.args.d)
+epoch-is c = c.epoch_fits.ensures ∙ ap epoch_fits (at (later c.before) (lit< tt)).told
 
-way-is : (c : tie.After-scaled) → c.scaled.result ≡ scaled c.before.before.before.before.before.before.before.before.before.args.d c.before.before.before.before.before.before.before.before.before.args.c.velocity
-way-is c = c.scaled.ensures ∙ ap (λ (k : ℤ). scaled k c.before.before.before.before.before.before.before.before.before.args.c.velocity) (to_z-of_z c.before.before.before.before.before.before.before.before.before.ranges.d)
+way-is : (c : tie.After-scaled) → c.scaled.result ≡ scaled c.args.d c.args.c.velocity
+way-is c = c.scaled.ensures ∙ ap (λ (k : ℤ). scaled k c.args.c.velocity) (to_z-of_z c.ranges.d)
 
-place_is : (c : tie.After-plus) → c.plus.result ≡ plus c.before.before.before.before.before.before.before.before.before.before.args.c.position (scaled c.before.before.before.before.before.before.before.before.before.before.args.d c.before.before.before.before.before.before.before.before.before.before.args.c.velocity)
-place_is c = c.plus.ensures ∙ ap (plus c.before.before.before.before.before.before.before.before.before.before.args.c.position) (way-is c.before)
+place_is : (c : tie.After-plus-position) → c.plus-position.result ≡ plus c.args.c.position (scaled c.args.d c.args.c.velocity)
+place_is c = c.plus-position.ensures ∙ ap (plus c.args.c.position) (way-is c.before)
 
-fits-is : (c : tie.After-position-fits) → c.position-fits.result ≡ position_fits c.before.before.before.before.before.before.before.before.before.before.before.args.c.mark (plus c.before.before.before.before.before.before.before.before.before.before.before.args.c.position (scaled c.before.before.before.before.before.before.before.before.before.before.before.args.d c.before.before.before.before.before.before.before.before.before.before.before.args.c.velocity))
-fits-is c = c.position-fits.ensures ∙ ap (position_fits c.before.before.before.before.before.before.before.before.before.before.before.args.c.mark) (place_is c.before)
+fits-is : (c : tie.After-position_fits) → c.position_fits.result ≡ position_fits c.args.c.mark (plus c.args.c.position (scaled c.args.d c.args.c.velocity))
+fits-is c = c.position_fits.ensures ∙ ap (position_fits c.args.c.mark) (place_is c.before.before)
 
 -- no solid tide, once the first test is passed
-free : (c : tie.Else1) → state_of c.before.before.args.c.tide ≡ 2 → ⊥
-free c h = c.if1.false (c.before.state-of.ensures ∙ h)
+free : (c : tie.Else-state_of-eq2) → state_of c.args.c.tide ≡ 2 → ⊥
+free c h = c.if-state_of-eq2.false (c.state_of.ensures ∙ h)
 
-returns : tie.Need-returns
-returns c = moved-tide c.before.before.args.c c.before.before.args.d (sym c.before.state-of.ensures ∙ c.if1.true)
+returns : tie.Need-returns-then-state_of-eq2
+returns c = moved-tide c.args.c c.args.d (sym c.state_of.ensures ∙ c.if-state_of-eq2.true)
 
-returns-2 : tie.Need-returns-2
+returns-2 : tie.Need-returns-then-magnitude-gt292200
 returns-2 c =
     let s = c.before.before.before.before in
-    let far : 292200 < nat_abs s.args.d = omega (arith, size c.before, c.if2.true) in
+    let far : 292200 < nat_abs s.args.d = omega (arith, size c.before, c.if-magnitude-gt292200.true) in
     moved-epoch s.args.c s.args.d (free c.before.before) (too_long s.args.c.epoch s.args.d (small s).epoch far)
 
-add-epoch : tie.Need-overflow-add-epoch
+add-epoch : tie.Need-overflow_add-epoch
 add-epoch c = fit (later c) (lit< tt)
 
-returns-3 : tie.Need-returns-3
+returns-3 : tie.Need-returns-then-not-epoch_fits
 returns-3 c =
-    let s = c.before.before.before.before.before.before.before.before in
-    moved-epoch s.args.c s.args.d (free c.before.before.before.before.before.before) (sym (epoch-is c.before) ∙ not-true c.before.epoch-fits.result c.if3.true)
+    moved-epoch c.args.c c.args.d (free c.before.before.before.before.before.before) (sym (epoch-is c.before) ∙ c.if-not-epoch_fits.true)
 
 scaled-requires : tie.Need-scaled-requires
-scaled-requires c κs =
-    let s = c.before.before.before.before.before.before.before.before in (
-      omega (arith, short c.before.before.before.before, ap nat_abs (to_z-of_z s.ranges.d)),
-      within-sized (widen (small s).velocity (lit≤ tt)),
-    )
+scaled-requires c κs = (
+  omega (arith, short c.before.before.before.before.before.before, ap nat_abs (to_z-of_z c.ranges.d)),
+  within-sized (widen (small c.before.before.before.before.before.before.before.before.before.before).velocity (lit≤ tt)),
+)
 
-plus-requires : tie.Need-plus-requires
-plus-requires c κs =
-    let s = c.before.before.before.before.before.before.before.before.before in (
-      within-sized (widen (small s).position (lit≤ tt)),
-      sized-as (way-is c) (scaled-within s.args.d (short c.before.before.before.before.before) (small s).velocity) (lit≤ tt),
-    )
+plus-requires : tie.Need-plus-position-requires
+plus-requires c κs = (
+  within-sized (widen (small c.before.before.before.before.before.before.before.before.before.before.before).position (lit≤ tt)),
+  sized-as (way-is c) (scaled-within c.args.d (short c.before.before.before.before.before.before.before) (small c.before.before.before.before.before.before.before.before.before.before.before).velocity) (lit≤ tt),
+)
 
-position-fits-requires : tie.Need-position-fits-requires
-position-fits-requires c κs = within-sized (small c.before.before.before.before.before.before.before.before.before.before).mark
+position-fits-requires : tie.Need-position_fits-requires
+position-fits-requires c κs = within-sized (small c.before.before.before.before.before.before.before.before.before.before.before.before.before).mark
 
-returns-4 : tie.Need-returns-4
+returns-4 : tie.Need-returns-then-not-position_fits
 returns-4 c =
-    let s = c.before.before.before.before.before.before.before.before.before.before.before.before in
-    let e = c.before.before.before.before in
-    moved-far s.args.c s.args.d (free c.before.before.before.before.before.before.before.before.before.before)
-    (sym (epoch-is e.before) ∙ not-false e.before.epoch-fits.result e.if3.false)
-    (sym (fits-is c.before) ∙ not-true c.before.position-fits.result c.if4.true)
+    moved-far c.args.c c.args.d (free c.before.before.before.before.before.before.before.before.before.before.before.before.before)
+    (sym (epoch-is c.before.before.before.before.before.before.before.before) ∙ c.if-not-epoch_fits.false)
+    (sym (fits-is c.before) ∙ c.if-not-position_fits.true)
 
-returns-5 : tie.Need-returns-5
+returns-5 : tie.Need-returns
 returns-5 c =
-    let s = c.before.before.before.before.before.before.before.before.before.before.before.before in
-    let e = c.before.before.before.before in
-    moved-near s.args.c s.args.d (free c.before.before.before.before.before.before.before.before.before.before) _ _
-    (sym (epoch-is e.before) ∙ not-false e.before.epoch-fits.result e.if3.false)
-    (sym (fits-is c.before) ∙ not-false c.before.position-fits.result c.if4.false)
-    (at (later e.before.before) (lit< tt)).told
-    (place_is c.before.before)
+    moved-near c.args.c c.args.d (free c.before.before.before.before.before.before.before.before.before.before.before.before.before) _ _
+    (sym (epoch-is c.before.before.before.before.before.before.before.before) ∙ c.if-not-epoch_fits.false)
+    (sym (fits-is c.before) ∙ c.if-not-position_fits.false)
+    (at (later c.before.before.before.before.before.before.before.before.before) (lit< tt)).told
+    (place_is c.before.before.before)
 
-pub moved-spec : {M : Type 1} → statement M
-moved-spec =
+pub moved_spec : {M : Type 1} → statement M
+moved_spec =
     tie.close
     (tie.spec (λ c κs. search rules) returns (λ c κs. search rules) returns-2 add-epoch (λ c κs. search rules) returns-3 scaled-requires plus-requires
     position-fits-requires returns-4 returns-5)

@@ -23,8 +23,8 @@ use Rattle.card.proofs.calls.reframed.Tie as tie
 small : (c : tie.Start) → Small c.args.c
 small c = valid-small c.args.c c.requires
 
-known : (c : tie.Else1) → known_frame c.before.args.frame ≡ true
-known c = frame-known c.before.args.frame c.if1.false
+known : (c : tie.Else-frame) → known_frame c.args.frame ≡ true
+known c = frame-known c.args.frame c.if-frame.false
 
 -- ---- what a frame gives is small
 
@@ -36,78 +36,74 @@ at-sized c g a e = sized-as (ap (λ (x : AtEpoch). x.at) e) (at-within c.args.c.
 
 -- ---- what each local holds
 
-gain-is : (c : tie.After-minus) → c.minus.result ≡ frame_gain c.before.before.before.before.args.c.frame c.before.before.before.before.args.frame c.before.before.before.before.args.c.mark
+gain-is : (c : tie.After-minus) → c.minus.result ≡ frame_gain c.args.c.frame c.args.frame c.args.c.mark
 unfolding frame_gain
-gain-is c = c.minus.ensures ∙ ap₂ (λ (n f : AtEpoch). minus n.rate f.rate) c.before.framed2.ensures c.before.before.framed.ensures
+gain-is c = c.minus.ensures ∙ ap₂ (λ (n f : AtEpoch). minus n.rate f.rate) c.framed-g.ensures c.framed-f.ensures
 
-velocity-is : (c : tie.After-plus) → c.plus.result ≡ new_velocity c.before.before.before.before.before.args.c c.before.before.before.before.before.args.frame
-velocity-is c = c.plus.ensures ∙ ap (plus c.before.before.before.before.before.args.c.velocity) (gain-is c.before)
+velocity-is : (c : tie.After-plus-velocity) → c.plus-velocity.result ≡ new_velocity c.args.c c.args.frame
+velocity-is c = c.plus-velocity.ensures ∙ ap (plus c.args.c.velocity) (gain-is c.before)
 
 fits : (v : Vec3) → sized 500000 v ≡ velocity_fits v
 unfolding velocity_fits
 fits v = refl
 
-fast-is : (c : tie.After-sized) → c.sized.result ≡ velocity_fits (new_velocity c.before.before.before.before.before.before.args.c c.before.before.before.before.before.before.args.frame)
-fast-is c = c.sized.ensures ∙ fits c.before.plus.result ∙ ap velocity_fits (velocity-is c.before)
+fast-is : (c : tie.After-sized) → c.sized.result ≡ velocity_fits (new_velocity c.args.c c.args.frame)
+fast-is c = c.sized.ensures ∙ fits c.plus-velocity.result ∙ ap velocity_fits (velocity-is c.before)
 
-shift_is : (c : tie.After-minus2) → c.minus2.result ≡ frame_shift c.before.before.before.before.before.before.before.before.args.c.frame c.before.before.before.before.before.before.before.before.args.frame c.before.before.before.before.before.before.before.before.args.c.epoch c.before.before.before.before.before.before.before.before.args.c.mark
+shift_is : (c : tie.After-minus-2) → c.minus-2.result ≡ frame_shift c.args.c.frame c.args.frame c.args.c.epoch c.args.c.mark
 unfolding frame_shift
-shift_is c = c.minus2.ensures ∙ ap₂ (λ (n f : AtEpoch). minus n.at f.at) c.before.before.before.before.before.framed2.ensures c.before.before.before.before.before.before.framed.ensures
+shift_is c = c.minus-2.ensures ∙ ap₂ (λ (n f : AtEpoch). minus n.at f.at) c.framed-g.ensures c.framed-f.ensures
 
-place_is : (c : tie.After-plus2) → c.plus2.result ≡ new_position c.before.before.before.before.before.before.before.before.before.args.c c.before.before.before.before.before.before.before.before.before.args.frame
-place_is c = c.plus2.ensures ∙ ap (plus c.before.before.before.before.before.before.before.before.before.args.c.position) (shift_is c.before)
+place_is : (c : tie.After-plus-position) → c.plus-position.result ≡ new_position c.args.c c.args.frame
+place_is c = c.plus-position.ensures ∙ ap (plus c.args.c.position) (shift_is c.before)
 
-far-is : (c : tie.After-position-fits) → c.position-fits.result ≡ position_fits c.before.before.before.before.before.before.before.before.before.before.args.c.mark (new_position c.before.before.before.before.before.before.before.before.before.before.args.c c.before.before.before.before.before.before.before.before.before.before.args.frame)
-far-is c = c.position-fits.ensures ∙ ap (position_fits c.before.before.before.before.before.before.before.before.before.before.args.c.mark) (place_is c.before)
+far-is : (c : tie.After-position_fits) → c.position_fits.result ≡ position_fits c.args.c.mark (new_position c.args.c c.args.frame)
+far-is c = c.position_fits.ensures ∙ ap (position_fits c.args.c.mark) (place_is c.before.before)
 
 -- ---- the needs
 
-returns : tie.Need-returns
-returns c = reframed-unknown c.before.args.c c.before.args.frame (frame-unknown c.before.args.frame c.if1.true)
+returns : tie.Need-returns-then-frame
+returns c = reframed-unknown c.args.c c.args.frame (frame-unknown c.args.frame c.if-frame.true)
 
-framed-requires : tie.Need-framed-requires
-framed-requires c κs = let s = c.before in (s.requires, (valid-passed s.args.c s.requires).frame)
+framed-requires : tie.Need-framed-f-requires
+framed-requires c κs = (c.requires, (valid-passed c.args.c c.requires).frame)
 
 minus-requires : tie.Need-minus-requires
-minus-requires c κs = let s = c.before.before.before in (rate-sized s s.args.frame _ c.framed2.ensures, rate-sized s s.args.c.frame _ c.before.framed.ensures)
+minus-requires c κs = (rate-sized c.before.before.before.before.before.before c.args.frame _ c.framed-g.ensures, rate-sized c.before.before.before.before.before.before c.args.c.frame _ c.framed-f.ensures)
 
-plus-requires : tie.Need-plus-requires
-plus-requires c κs =
-    let s = c.before.before.before.before in (
-      within-sized (widen (small s).velocity (lit≤ tt)),
-      sized-as (gain-is c) (gain-within s.args.c.frame s.args.frame s.args.c.mark (small s).mark) (lit≤ tt),
-    )
+plus-requires : tie.Need-plus-velocity-requires
+plus-requires c κs = (
+  within-sized (widen (small c.before.before.before.before.before.before.before).velocity (lit≤ tt)),
+  sized-as (gain-is c) (gain-within c.args.c.frame c.args.frame c.args.c.mark (small c.before.before.before.before.before.before.before).mark) (lit≤ tt),
+)
 
-returns-2 : tie.Need-returns-2
-returns-2 c = let s = c.before.before.before.before.before.before.before in reframed-fast s.args.c s.args.frame (known c.before.before.before.before.before.before) (sym (fast-is c.before) ∙ not-true c.before.sized.result c.if2.true)
+returns-2 : tie.Need-returns-then-not-sized
+returns-2 c = reframed-fast c.args.c c.args.frame (known c.before.before.before.before.before.before.before.before.before) (sym (fast-is c.before) ∙ c.if-not-sized.true)
 
 minus-requires-2 : tie.Need-minus-requires-2
-minus-requires-2 c κs = let s = c.before.before.before.before.before.before.before in (at-sized s s.args.frame _ c.before.before.before.before.framed2.ensures, at-sized s s.args.c.frame _ c.before.before.before.before.before.framed.ensures)
+minus-requires-2 c κs = (at-sized c.before.before.before.before.before.before.before.before.before.before.before.before.before c.args.frame _ c.framed-g.ensures, at-sized c.before.before.before.before.before.before.before.before.before.before.before.before.before c.args.c.frame _ c.framed-f.ensures)
 
-plus-requires-2 : tie.Need-plus-requires-2
-plus-requires-2 c κs =
-    let s = c.before.before.before.before.before.before.before.before in (
-      within-sized (widen (small s).position (lit≤ tt)),
-      sized-as (shift_is c) (shift-within s.args.c.epoch s.args.c.mark (small s).mark (small s).epoch s.args.c.frame s.args.frame) (lit≤ tt),
-    )
+plus-requires-2 : tie.Need-plus-position-requires
+plus-requires-2 c κs = (
+  within-sized (widen (small c.before.before.before.before.before.before.before.before.before.before.before.before.before.before).position (lit≤ tt)),
+  sized-as (shift_is c) (shift-within c.args.c.epoch c.args.c.mark (small c.before.before.before.before.before.before.before.before.before.before.before.before.before.before).mark (small c.before.before.before.before.before.before.before.before.before.before.before.before.before.before).epoch c.args.c.frame c.args.frame) (lit≤ tt),
+)
 
 -- the new velocity is in range, once the second test is passed
-slow : (c : tie.Else2) → velocity_fits (new_velocity c.before.before.before.before.before.before.before.args.c c.before.before.before.before.before.before.before.args.frame) ≡ true
-slow c = sym (fast-is c.before) ∙ not-false c.before.sized.result c.if2.false
+slow : (c : tie.Else-not-sized) → velocity_fits (new_velocity c.args.c c.args.frame) ≡ true
+slow c = sym (fast-is c.before) ∙ c.if-not-sized.false
 
-returns-3 : tie.Need-returns-3
+returns-3 : tie.Need-returns-then-not-position_fits
 returns-3 c =
-    let s = c.before.before.before.before.before.before.before.before.before.before.before in
-    reframed-far s.args.c s.args.frame (known c.before.before.before.before.before.before.before.before.before.before) (slow c.before.before.before.before) (sym (far-is c.before) ∙ not-true c.before.position-fits.result c.if3.true)
+    reframed-far c.args.c c.args.frame (known c.before.before.before.before.before.before.before.before.before.before.before.before.before.before.before.before.before) (slow c.before.before.before.before.before.before.before.before) (sym (far-is c.before) ∙ c.if-not-position_fits.true)
 
-returns-4 : tie.Need-returns-4
+returns-4 : tie.Need-returns
 returns-4 c =
-    let s = c.before.before.before.before.before.before.before.before.before.before.before in
-    reframed-near s.args.c s.args.frame (known c.before.before.before.before.before.before.before.before.before.before) _ _ (slow c.before.before.before.before) (sym (far-is c.before) ∙ not-false c.before.position-fits.result c.if3.false)
-    (velocity-is c.before.before.before.before.before.before) (place_is c.before.before)
+    reframed-near c.args.c c.args.frame (known c.before.before.before.before.before.before.before.before.before.before.before.before.before.before.before.before.before) _ _ (slow c.before.before.before.before.before.before.before.before) (sym (far-is c.before) ∙ c.if-not-position_fits.false)
+    (velocity-is c.before.before.before.before.before.before.before.before.before.before) (place_is c.before.before.before)
 
-pub reframed-spec : {M : Type 1} → statement M
-reframed-spec =
+pub reframed_spec : {M : Type 1} → statement M
+reframed_spec =
     tie.close
-    (tie.spec (λ c. search rules) returns (λ c. search rules) framed-requires (λ c κs. (c.before.before.requires, known c.before)) minus-requires plus-requires (λ c κs. search rules) returns-2 minus-requires-2
-    plus-requires-2 (λ c κs. within-sized (small c.before.before.before.before.before.before.before.before.before).mark) returns-3 returns-4)
+    (tie.spec (λ c. search rules) returns (λ c. search rules) framed-requires (λ c κs. (c.requires, known c.before)) minus-requires plus-requires (λ c κs. search rules) returns-2 minus-requires-2
+    plus-requires-2 (λ c κs. within-sized (small c.before.before.before.before.before.before.before.before.before.before.before.before.before.before.before.before).mark) returns-3 returns-4)

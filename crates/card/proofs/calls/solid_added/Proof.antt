@@ -13,20 +13,16 @@ use Rattle.card.proofs.calls.solid_added.Tie as tie
 on-mark : (c : tie.Start) → marked c.args.c.mark ≡ true
 on-mark c = (valid-passed c.args.c c.requires).mark
 
-plus-requires : tie.Need-plus-requires
+plus-requires : tie.Need-plus-p-requires
 plus-requires c κs =
-    let t = c.before in
-    let s = t.before in
-    addable s.args.c s.requires (tide-small s.args.c s.args.first s.args.second _ (on-mark s) t.solid-tide.ensures)
+    addable c.args.c c.requires (tide-small c.args.c c.args.first c.args.second _ (on-mark c.before.before.before.before) c.solid_tide-s.ensures)
 
 returns : tie.Need-returns
 returns c =
-    let t = c.before.before.before in
-    let s = t.before in
     c.retided.ensures
-    ∙ ap (λ (p : Vec3). retided s.args.c 0 2 t.solid-tide.result.number p t.solid-tide.result.shift) c.before.plus.ensures
-    ∙ solid-on-is s.args.c s.args.first s.args.second t.solid-tide.result (on-mark s) t.solid-tide.ensures
+    ∙ ap (λ (p : Vec3). retided c.args.c 0 2 c.solid_tide-s.result.number p c.solid_tide-s.result.shift) c.plus-p.ensures
+    ∙ solid-on-is c.args.c c.args.first c.args.second c.solid_tide-s.result (on-mark c.before.before.before.before.before.before) c.solid_tide-s.ensures
 
-pub solid-added-spec : {M : Type 1} → statement M
-solid-added-spec =
-    tie.close (tie.spec (λ c κs. search rules) plus-requires (λ c κs. let s = c.before.before.before in mark-sized s.args.c s.requires) returns)
+pub solid_added_spec : {M : Type 1} → statement M
+solid_added_spec =
+    tie.close (tie.spec (λ c κs. search rules) plus-requires (λ c κs. mark-sized c.args.c c.requires) returns)

@@ -7,13 +7,12 @@ use Rattle.card.specs.Checks.{tide_fits}
 use Rattle.card.proofs.checks.fourth_fits.Statement.{statement}
 use Rattle.card.proofs.checks.fourth_fits.Tie as tie
 
-returns : tie.Need-returns
-returns c = let a = c.before.args in sym (and_first a.zeros (tide_fits a.byte a.v) (not-true a.zeros c.if1.true))
+returns : tie.Need-returns-then-not-zeros
+returns c = sym (and_first c.args.zeros (tide_fits c.args.byte c.args.v) (c.if-not-zeros.true))
 
-returns-2 : tie.Need-returns-2
+returns-2 : tie.Need-returns
 returns-2 c =
-    let a = c.before.before.args in
-    c.tide-fits.ensures ∙ true-and a.zeros (tide_fits a.byte a.v) (not-false a.zeros c.before.if1.false)
+    c.tide_fits.ensures ∙ true-and c.args.zeros (tide_fits c.args.byte c.args.v) (c.if-not-zeros.false)
 
-pub fourth-fits-spec : {M : Type 1} → statement M
-fourth-fits-spec = tie.close (tie.spec returns (λ c κs. search rules) returns-2)
+pub fourth_fits_spec : {M : Type 1} → statement M
+fourth_fits_spec = tie.close (tie.spec returns (λ c κs. search rules) returns-2)

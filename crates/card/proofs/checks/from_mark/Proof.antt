@@ -27,23 +27,23 @@ module _ (m p : ℤ) (fm : SFits w64 m) (fp : SFits w64 p) (hm : nat_abs m ≤ 6
   apart = (at less (lit< tt)).told
 
 -- what is known of each component when it is read
-mx-fits : (c : tie.After-struct-told) → SFits w64 c.before.before.args.m.x
-mx-fits c = record { sfits = c.struct_told.given.0.1 }
+mx-fits : (c : tie.After-struct_told-1) → SFits w64 c.args.m.x
+mx-fits c = record { sfits = c.struct_told-1.given.0.1 }
 
-px-fits : (c : tie.After-struct-told2) → SFits w64 c.before.before.before.before.args.p.x
-px-fits c = record { sfits = c.struct-told2.given.0.1 }
+px-fits : (c : tie.After-struct_told-2-1) → SFits w64 c.args.p.x
+px-fits c = record { sfits = c.struct_told-2-1.given.0.1 }
 
-my-fits : (c : tie.After-struct-told3) → SFits w64 c.before.before.before.before.before.before.args.m.y
-my-fits c = record { sfits = c.struct-told3.given.1.0.1 }
+my-fits : (c : tie.After-struct_told-3-1) → SFits w64 c.args.m.y
+my-fits c = record { sfits = c.struct_told-3-1.given.1.0.1 }
 
-py-fits : (c : tie.After-struct-told4) → SFits w64 c.before.before.before.before.before.before.before.before.args.p.y
-py-fits c = record { sfits = c.struct-told4.given.1.0.1 }
+py-fits : (c : tie.After-struct_told-4-1) → SFits w64 c.args.p.y
+py-fits c = record { sfits = c.struct_told-4-1.given.1.0.1 }
 
-mz-fits : (c : tie.After-struct-told5) → SFits w64 c.before.before.before.before.before.before.before.before.before.before.args.m.z
-mz-fits c = record { sfits = c.struct-told5.given.1.1.0.1 }
+mz-fits : (c : tie.After-struct_told-5-1) → SFits w64 c.args.m.z
+mz-fits c = record { sfits = c.struct_told-5-1.given.1.1.0.1 }
 
-pz-fits : (c : tie.After-struct-told6) → SFits w64 c.before.before.before.before.before.before.before.before.before.before.before.before.args.p.z
-pz-fits c = record { sfits = c.struct-told6.given.1.1.0.1 }
+pz-fits : (c : tie.After-struct_told-6-1) → SFits w64 c.args.p.z
+pz-fits c = record { sfits = c.struct_told-6-1.given.1.1.0.1 }
 
 m-within : (s : tie.Start) → Within 6400000 s.args.m
 m-within s = sized-within 6400000 s.args.m s.requires.0
@@ -51,23 +51,20 @@ m-within s = sized-within 6400000 s.args.m s.requires.0
 p-within : (s : tie.Start) → Within 10000000000000000 s.args.p
 p-within s = sized-within 10000000000000000 s.args.p s.requires.1
 
-sub-t4 : tie.Need-overflow-sub-t4
+sub-t4 : tie.Need-overflow_sub-result
 sub-t4 c =
-    let s = c.before.before.before.before in
-    fit (less s.args.m.x s.args.p.x (mx-fits c.before.before) (px-fits c) (m-within s).x (p-within s).x) (lit< tt)
+    fit (less c.args.m.x c.args.p.x (mx-fits c.before.before) (px-fits c) (m-within c.before.before.before.before).x (p-within c.before.before.before.before).x) (lit< tt)
 
-sub-t6 : tie.Need-overflow-sub-t6
+sub-t6 : tie.Need-overflow_sub-result-2
 sub-t6 c =
-    let s = c.before.before.before.before.before.before.before.before in
-    fit (less s.args.m.y s.args.p.y (my-fits c.before.before) (py-fits c) (m-within s).y (p-within s).y) (lit< tt)
+    fit (less c.args.m.y c.args.p.y (my-fits c.before.before) (py-fits c) (m-within c.before.before.before.before.before.before.before.before).y (p-within c.before.before.before.before.before.before.before.before).y) (lit< tt)
 
-mul-t7 : tie.Need-overflow-mul-t7
+mul-t7 : tie.Need-overflow_mul-result-3
 mul-t7 c = fit (v* (lit 1461000000) (given (mz-fits c) (m-within c.before.before.before.before.before.before.before.before.before.before).z)) (lit< tt)
 
-sub-t8 : tie.Need-overflow-sub-t8
+sub-t8 : tie.Need-overflow_sub-result-3
 sub-t8 c =
-    let s = c.before.before.before.before.before.before.before.before.before.before.before.before in
-    fit (less s.args.m.z s.args.p.z (mz-fits c.before.before) (pz-fits c) (m-within s).z (p-within s).z) (lit< tt)
+    fit (less c.args.m.z c.args.p.z (mz-fits c.before.before) (pz-fits c) (m-within c.before.before.before.before.before.before.before.before.before.before.before.before).z (p-within c.before.before.before.before.before.before.before.before.before.before.before.before).z) (lit< tt)
 
 named : (m p : Vec3) (x y z : ℤ) → x ≡ p.x -ℤ pos metre *ℤ m.x → y ≡ p.y -ℤ pos metre *ℤ m.y → z ≡ p.z -ℤ pos metre *ℤ m.z → vec x y z ≡ from_mark m p
 unfolding from_mark minus scaled
@@ -75,14 +72,13 @@ named m p x y z e f g = vec≡ e f g
 
 returns : tie.Need-returns
 returns c =
-    let s = c.before.before.before.before.before.before.before.before.before.before.before.before in
-    named s.args.m s.args.p _ _ _
-    (apart s.args.m.x s.args.p.x (mx-fits c.before.before.before.before.before.before.before.before.before.before) (px-fits c.before.before.before.before.before.before.before.before) (m-within s).x (p-within s).x)
-    (apart s.args.m.y s.args.p.y (my-fits c.before.before.before.before.before.before) (py-fits c.before.before.before.before) (m-within s).y (p-within s).y)
-    (apart s.args.m.z s.args.p.z (mz-fits c.before.before) (pz-fits (c)) (m-within s).z (p-within s).z)
+    named c.args.m c.args.p _ _ _
+    (apart c.args.m.x c.args.p.x (mx-fits c.before.before.before.before.before.before.before.before.before.before) (px-fits c.before.before.before.before.before.before.before.before) (m-within c.before.before.before.before.before.before.before.before.before.before.before.before).x (p-within c.before.before.before.before.before.before.before.before.before.before.before.before).x)
+    (apart c.args.m.y c.args.p.y (my-fits c.before.before.before.before.before.before) (py-fits c.before.before.before.before) (m-within c.before.before.before.before.before.before.before.before.before.before.before.before).y (p-within c.before.before.before.before.before.before.before.before.before.before.before.before).y)
+    (apart c.args.m.z c.args.p.z (mz-fits c.before.before) (pz-fits c) (m-within c.before.before.before.before.before.before.before.before.before.before.before.before).z (p-within c.before.before.before.before.before.before.before.before.before.before.before.before).z)
 
-pub from-mark-spec : {M : Type 1} → statement M
-from-mark-spec =
+pub from_mark_spec : {M : Type 1} → statement M
+from_mark_spec =
     tie.close
     (tie.spec (λ c. fit (v* (lit 1461000000) (given (mx-fits c) (m-within c.before.before).x)) (lit< tt)) sub-t4
     (λ c. fit (v* (lit 1461000000) (given (my-fits c) (m-within c.before.before.before.before.before.before).y)) (lit< tt)) sub-t6 mul-t7

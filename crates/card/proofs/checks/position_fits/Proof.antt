@@ -21,23 +21,21 @@ far m p true h e q =
     let w = position-small m p (sized-within 6400000 m h) q in
     sym e ∙ is-sized 10000000000000000 p (record { x = le_trans w.x (lit≤ tt); y = le_trans w.y (lit≤ tt); z = le_trans w.z (lit≤ tt) })
 
-returns : tie.Need-returns
+returns : tie.Need-returns-then-not-sized
 returns c =
-    let a = c.before.before.args in
-    far a.m a.p (position_fits a.m a.p) c.before.before.requires (sym c.before.sized.ensures ∙ not-true c.before.sized.result c.if1.true) refl
+    far c.args.m c.args.p (position_fits c.args.m c.args.p) c.requires (sym c.sized.ensures ∙ c.if-not-sized.true) refl
 
-from-mark-requires : tie.Need-from-mark-requires
+from-mark-requires : tie.Need-from_mark-requires
 from-mark-requires c κs =
-    (c.before.before.requires, passes (sym c.before.sized.ensures ∙ not-false c.before.sized.result c.if1.false))
+    (c.requires, passes (sym c.sized.ensures ∙ c.if-not-sized.false))
 
 named : (m p d : Vec3) (t : Bool) → d ≡ from_mark m p → t ≡ sized 1461000000000 d → t ≡ position_fits m p
 unfolding position_fits
 named m p d t e h = h ∙ ap (sized 1461000000000) e
 
-returns-2 : tie.Need-returns-2
+returns-2 : tie.Need-returns
 returns-2 c =
-    let a = c.before.before.before.before.args in
-    named a.m a.p c.before.from-mark.result c.sized2.result c.before.from-mark.ensures c.sized2.ensures
+    named c.args.m c.args.p c.from_mark.result c.sized-2.result c.from_mark.ensures c.sized-2.ensures
 
-pub position-fits-spec : {M : Type 1} → statement M
-position-fits-spec = tie.close (tie.spec (λ c κs. search rules) returns from-mark-requires (λ c κs. search rules) returns-2)
+pub position_fits_spec : {M : Type 1} → statement M
+position_fits_spec = tie.close (tie.spec (λ c κs. search rules) returns from-mark-requires (λ c κs. search rules) returns-2)

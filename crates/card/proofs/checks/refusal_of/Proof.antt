@@ -1,4 +1,5 @@
 -- `card::checks::refusal_of` meets its contract: the shared checks, then 7 and 8, then those of what is stored. Assumes nothing.
+use mir.Syntax.{w64}
 use mathlib.Core.Path.{◌≡◌, refl, sym, ap₂, ◌∙◌}
 use mathlib.Core.Bool.{Bool, true, not, ◌&&◌}
 use mathlib.Core.List.{◌∷◌, ◌++◌}
@@ -42,65 +43,49 @@ fits v = refl
 
 -- ---- the tests
 
-head-is : (c : tie.After-check-head) → let s = c.before.before.before.before in c.check-head.result ≡ first (head s.args.zeros s.args.c)
+head-is : (c : tie.After-check_head-number) → c.check_head-number.result ≡ first (head c.args.zeros c.args.c)
 head-is c =
-    let t = c.before in
-    let s = t.before.before.before in
-    c.check-head.ensures
-    ∙ ap₂ (λ (b : Bool) (e : ℤ). first (head_checks s.args.c.site s.args.c.frame b e s.args.c.mark)) t.before.fourth-fits.ensures
-    (to_z-of_z (record { sfits = t.struct_told.given.1.1.1.0.1 }))
+    c.check_head-number.ensures
+    ∙ ap₂ (λ (b : Bool) (e : ℤ). first (head_checks c.args.c.site c.args.c.frame b e c.args.c.mark)) c.fourth_fits-fits.ensures
+    (to_z-of_z {w = w64} (record { sfits = c.struct_told-1.given.1.1.1.0.1 }))
 
-returns : tie.Need-returns
+returns : tie.Need-returns-then-number-ne0
 returns c =
-    let h = c.before in
-    let a = h.before.before.before.before.args in
-    let e = head-is h in
-    e ∙ sym (stays (head a.zeros a.c) (body_checks a.c ++ stored_checks a.c) (pos_of_ne-zero (λ z. c.if1.true (e ∙ z)))) ∙ whole a.zeros a.c
+    let e = head-is c.before in
+    e ∙ sym (stays (head c.args.zeros c.args.c) (body_checks c.args.c ++ stored_checks c.args.c) (pos_of_ne-zero (λ z. c.if-number-ne0.true (e ∙ z)))) ∙ whole c.args.zeros c.args.c
 
-on1 : (c : tie.Else1) → let a = c.before.before.before.before.before.args in first (body_checks a.c ++ stored_checks a.c) ≡ first (checks a.zeros a.c)
+on1 : (c : tie.Else-number-ne0) → first (body_checks c.args.c ++ stored_checks c.args.c) ≡ first (checks c.args.zeros c.args.c)
 on1 c =
-    let h = c.before in
-    let a = h.before.before.before.before.args in
-    sym (onward (head a.zeros a.c) (body_checks a.c ++ stored_checks a.c) (all-positive a.zeros a.c) (sym (head-is h) ∙ c.if1.false)) ∙ whole a.zeros a.c
+    sym (onward (head c.args.zeros c.args.c) (body_checks c.args.c ++ stored_checks c.args.c) (all-positive c.args.zeros c.args.c) (sym (head-is c.before) ∙ c.if-number-ne0.false)) ∙ whole c.args.zeros c.args.c
 
-velocity-is : (c : tie.After-sized) → c.sized.result ≡ velocity_fits c.before.before.before.before.before.before.args.c.velocity
-velocity-is c = c.sized.ensures ∙ fits c.before.before.before.before.before.before.args.c.velocity
+velocity-is : (c : tie.After-sized) → c.sized.result ≡ velocity_fits c.args.c.velocity
+velocity-is c = c.sized.ensures ∙ fits c.args.c.velocity
 
 abbrev from8 : Card → Table
 from8 c = (8, not (position_fits c.mark c.position)) ∷ stored_checks c
 
-on2 : (c : tie.Else2) → let a = c.before.before.before.before.before.before.before.args in first (from8 a.c) ≡ first (checks a.zeros a.c)
+on2 : (c : tie.Else-not-sized) → first (from8 c.args.c) ≡ first (checks c.args.zeros c.args.c)
 on2 c =
-    let v = c.before in
-    let a = v.before.before.before.before.before.before.args in
-    passed 7 (velocity_fits a.c.velocity) (from8 a.c) (sym (velocity-is v) ∙ not-false v.sized.result c.if2.false) ∙ on1 v.before
+    passed 7 (velocity_fits c.args.c.velocity) (from8 c.args.c) (sym (velocity-is c.before) ∙ c.if-not-sized.false) ∙ on1 c.before.before.before
 
-returns-2 : tie.Need-returns-2
+returns-2 : tie.Need-returns-then-not-sized
 returns-2 c =
-    let v = c.before in
-    let a = v.before.before.before.before.before.before.args in
-    stopped 7 (velocity_fits a.c.velocity) (from8 a.c) (sym (velocity-is v) ∙ not-true v.sized.result c.if2.true) ∙ on1 v.before
+    stopped 7 (velocity_fits c.args.c.velocity) (from8 c.args.c) (sym (velocity-is c.before) ∙ c.if-not-sized.true) ∙ on1 c.before.before.before
 
-position-fits-requires : tie.Need-position-fits-requires
+position-fits-requires : tie.Need-position_fits-requires
 position-fits-requires c κs =
-    let g = c.before.before in
-    let a = g.before.before.before.before.before.args in
-    within-sized (accepted-within a.c.mark (on-mark a.zeros a.c (sym (head-is g.before) ∙ g.if1.false)))
+    within-sized (accepted-within c.args.c.mark (on-mark c.args.zeros c.args.c (sym (head-is c.before.before.before.before.before.before) ∙ c.if-number-ne0.false)))
 
-on3 : (c : tie.Else3) → let a = c.before.before.before.before.before.before.before.before.before.args in first (stored_checks a.c) ≡ first (checks a.zeros a.c)
+on3 : (c : tie.Else-not-position_fits) → first (stored_checks c.args.c) ≡ first (checks c.args.zeros c.args.c)
 on3 c =
-    let p = c.before in
-    let a = p.before.before.before.before.before.before.before.before.args in
-    passed 8 (position_fits a.c.mark a.c.position) (stored_checks a.c) (sym p.position-fits.ensures ∙ not-false p.position-fits.result c.if3.false) ∙ on2 p.before
+    passed 8 (position_fits c.args.c.mark c.args.c.position) (stored_checks c.args.c) (sym c.position_fits.ensures ∙ c.if-not-position_fits.false) ∙ on2 c.before.before.before.before
 
-returns-3 : tie.Need-returns-3
+returns-3 : tie.Need-returns-then-not-position_fits
 returns-3 c =
-    let p = c.before in
-    let a = p.before.before.before.before.before.before.before.before.args in
-    stopped 8 (position_fits a.c.mark a.c.position) (stored_checks a.c) (sym p.position-fits.ensures ∙ not-true p.position-fits.result c.if3.true) ∙ on2 p.before
+    stopped 8 (position_fits c.args.c.mark c.args.c.position) (stored_checks c.args.c) (sym c.position_fits.ensures ∙ c.if-not-position_fits.true) ∙ on2 c.before.before.before.before
 
-pub refusal-of-spec : {M : Type 1} → statement M
-refusal-of-spec =
+pub refusal_of_spec : {M : Type 1} → statement M
+refusal_of_spec =
     tie.close
     (tie.spec (λ c κs. search rules) (λ c κs. search rules) returns (λ c κs. search rules) returns-2 position-fits-requires returns-3
-    (λ c κs. search rules) (λ c. c.stored-refusal.ensures ∙ on3 c.before))
+    (λ c κs. search rules) (λ c. c.stored_refusal.ensures ∙ on3 c.before.before))

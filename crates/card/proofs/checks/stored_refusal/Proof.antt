@@ -14,14 +14,14 @@ fits : (v : Vec3) → sized 1461000000 v ≡ vector_fits v
 unfolding vector_fits
 fits v = refl
 
-answer : (c : tie.After-sized) → c.sized.result ≡ vector_fits c.before.args.solid
-answer c = c.sized.ensures ∙ fits c.before.args.solid
+answer : (c : tie.After-sized) → c.sized.result ≡ vector_fits c.args.solid
+answer c = c.sized.ensures ∙ fits c.args.solid
 
-returns : tie.Need-returns
-returns c = stopped 9 (vector_fits c.before.before.args.solid) [] (sym (answer c.before) ∙ not-true c.before.sized.result c.if1.true)
+returns : tie.Need-returns-then-not-sized
+returns c = stopped 9 (vector_fits c.args.solid) [] (sym (answer c.before) ∙ c.if-not-sized.true)
 
-returns-2 : tie.Need-returns-2
-returns-2 c = passed-last 9 (vector_fits c.before.before.args.solid) (sym (answer c.before) ∙ not-false c.before.sized.result c.if1.false)
+returns-2 : tie.Need-returns
+returns-2 c = passed-last 9 (vector_fits c.args.solid) (sym (answer c.before) ∙ c.if-not-sized.false)
 
-pub stored-refusal-spec : {M : Type 1} → statement M
-stored-refusal-spec = tie.close (tie.spec (λ c κs. search rules) returns returns-2)
+pub stored_refusal_spec : {M : Type 1} → statement M
+stored_refusal_spec = tie.close (tie.spec (λ c κs. search rules) returns returns-2)

@@ -15,8 +15,8 @@ unknown : (b : ℕ) (v : Vec3) → 2 < b → false ≡ tide_fits b v
 unfolding tide_fits state_fits
 unknown b v h = rw (lt-leb b 2 h)
 
-returns : tie.Need-returns
-returns c = unknown c.before.args.byte c.before.args.v c.if1.true
+returns : tie.Need-returns-then-byte-gt2
+returns c = unknown c.args.byte c.args.v c.if-byte-gt2.true
 
 known : (b : ℕ) → b ≤ 2 → state_fits b ≡ true
 unfolding state_fits
@@ -26,21 +26,17 @@ on : (b : ℕ) (v : Vec3) → state_fits b ≡ true → state_of b ≡ 2 → tru
 unfolding tide_fits
 on b v f e = rw (f, e)
 
-returns-2 : tie.Need-returns-2
+returns-2 : tie.Need-returns-then-state_of-eq2
 returns-2 c =
-    let t = c.before in
-    let a = t.before.before.args in
-    on a.byte a.v (known a.byte t.before.if1.false) (sym t.state-of.ensures ∙ c.if2.true)
+    on c.args.byte c.args.v (known c.args.byte c.if-byte-gt2.false) (sym c.state_of.ensures ∙ c.if-state_of-eq2.true)
 
 off : (b : ℕ) (v : Vec3) (t : Bool) → state_fits b ≡ true → (state_of b ≡ 2 → ⊥) → t ≡ sized 0 v → t ≡ tide_fits b v
 unfolding tide_fits is_zero
 off b v t f n e = rw (f, ne_eqb (state_of b) 2 n) e
 
-returns-3 : tie.Need-returns-3
+returns-3 : tie.Need-returns
 returns-3 c =
-    let t = c.before.before in
-    let a = t.before.before.args in
-    off a.byte a.v c.sized.result (known a.byte t.before.if1.false) (λ h. c.before.if2.false (t.state-of.ensures ∙ h)) c.sized.ensures
+    off c.args.byte c.args.v c.sized.result (known c.args.byte c.if-byte-gt2.false) (λ h. c.if-state_of-eq2.false (c.state_of.ensures ∙ h)) c.sized.ensures
 
-pub tide-fits-spec : {M : Type 1} → statement M
-tide-fits-spec = tie.close (tie.spec returns (λ c κs. search rules) returns-2 (λ c κs. search rules) returns-3)
+pub tide_fits_spec : {M : Type 1} → statement M
+tide_fits_spec = tie.close (tie.spec returns (λ c κs. search rules) returns-2 (λ c κs. search rules) returns-3)
