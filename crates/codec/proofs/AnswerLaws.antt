@@ -29,8 +29,8 @@ read-refused s n e h = settled n (decode s) zero_card h ∙ ap (λ (k : ℕ). an
 pub read_short : (s : List ℕ) → (length s ≡ card_length → ⊥) → refused_with 1 ≡ read_card s
 read_short s h = read-refused s 1 (number_short s h) one
 
-pub read_number : (s : List ℕ) (n : ℕ) (z : Bool) (c : Card) → length s ≡ card_length → z ≡ eqb (get_or s 11 0) 0 → c ≡ decode s → n ≡ first (checks z c) → n ≡ read_number s
-read_number s n z c l e f h = h ∙ ap (λ (x : Bool). first (checks x c)) e ∙ ap (λ (x : Card). first (checks (eqb (get_or s 11 0) 0) x)) f ∙ number-long s l
+pub read_number_lem : (s : List ℕ) (n : ℕ) (z : Bool) (c : Card) → length s ≡ card_length → z ≡ eqb (get_or s 11 0) 0 → c ≡ decode s → n ≡ first (checks z c) → n ≡ read_number s
+read_number_lem s n z c l e f h = h ∙ ap (λ (x : Bool). first (checks x c)) e ∙ ap (λ (x : Card). first (checks (eqb (get_or s 11 0) 0) x)) f ∙ number-long s l
 
 pub read_taken : (s : List ℕ) (c : Card) → c ≡ decode s → 0 ≡ read_number s → answer 0 c ≡ read_card s
 unfolding read_card

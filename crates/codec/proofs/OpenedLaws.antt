@@ -20,7 +20,7 @@ use Rattle.card.proofs.CheckLaws.{positive-checks}
 use Rattle.card.proofs.StepLaws.{answer, settled, zeros-true}
 use Rattle.codec.specs.Codec.{encode, decode, read_number, card_length, write_number, written}
 use Rattle.codec.specs.Opened.{opened_number, opened_for, put_number, put_out}
-use Rattle.codec.proofs.AnswerLaws.{number_short, number-long, read_number}
+use Rattle.codec.proofs.AnswerLaws.{number_short, number-long, read_number_lem}
 
 -- ---- a record opened
 
@@ -54,7 +54,7 @@ module _ (room : ℕ) (s : List ℕ) where
     pub opened-zeros : (n : ℕ) → (get_or s 11 0 ≡ 0 → ⊥) → n ≡ first (checks false c) → refused_with n ≡ opened_for room s
     opened-zeros n z h =
         let e = ne_eqb (get_or s 11 0) 0 z in
-        opened-own n l (and_second (eqb (length s) card_length) (eqb (get_or s 11 0) 0) e) (read_number s n false c m (sym e) f h)
+        opened-own n l (and_second (eqb (length s) card_length) (eqb (get_or s 11 0) 0) e) (read_number_lem s n false c m (sym e) f h)
 
     pub opened-taken : get_or s 11 0 ≡ 0 → answer 0 c ≡ opened_for room s
     unfolding opened_for opened_number

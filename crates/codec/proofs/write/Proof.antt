@@ -8,4 +8,4 @@ pub write_spec : {M : Type 1} → statement M
 write_spec =
     tie.close
     (tie.spec (λ c κs. search rules) (λ c κs. search rules) (λ c. search rules)
-    (λ c. let p = c.before.before in put_written _ _ _ _ _ p.before.before.check.ensures p.put.ensures))
+    (λ c. put_written _ _ _ _ _ c.check-number.ensures c.put.ensures))

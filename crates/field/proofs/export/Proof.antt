@@ -13,20 +13,17 @@ use Rattle.field.proofs.export.Tie as tie
 twelve : ◌≡◌ {A = ℕ} 12 0 → ⊥
 twelve e = omega arith
 
-number_is : (c : tie.After-from-mark) → c.from-mark.result.number ≡ card_number c.before.before.before.args.c
-number_is c = offset-number c.before.before.before.args.c c.from-mark.result c.from-mark.ensures
+number_is : (c : tie.After-from_mark-away) → c.from_mark-away.result.number ≡ card_number c.args.c
+number_is c = offset-number c.args.c c.from_mark-away.result c.from_mark-away.ensures
 
-pub export-spec : {M : Type 1} → statement M
-export-spec =
+pub export_spec : {M : Type 1} → statement M
+export_spec =
     tie.close
-    (tie.spec (λ c. kept_field _ _ _ (export-short _ _ c.if1.true) one) (λ c κs. search rules)
-    (λ c. let n = c.before.before in kept_field _ _ _ (export-refused _ _ _ n.before.if1.false (number_is n) c.if2.true) c.if2.true)
+    (tie.spec (λ c. kept_field _ _ _ (export-short _ _ c.if-out-ne-FIELD_LENGTH.true) one) (λ c κs. search rules)
+    (λ c. kept_field _ _ _ (export-refused _ _ _ c.if-out-ne-FIELD_LENGTH.false (number_is c.before.before) c.if-away-ne0.true) c.if-away-ne0.true)
     (λ c κs. search rules)
-    (λ c. let n = c.before.before.before.before in
-    kept_field _ _ _ (export-tide _ _ _ n.before.if1.false (number_is n) c.before.before.if2.false (sym c.before.state-of.ensures ∙ c.if3.true)) twelve)
-    (λ c κs. let n = c.before.before.before.before.before in
-    (n.before.if1.false, offset-grains n.before.before.before.args.c n.from-mark.result n.from-mark.ensures c.before.before.before.if2.false))
+    (λ c. kept_field _ _ _ (export-tide _ _ _ c.if-out-ne-FIELD_LENGTH.false (number_is c.before.before.before.before) c.if-away-ne0.false (sym c.state_of.ensures ∙ c.if-state_of-eq2.true)) twelve)
+    (λ c κs. (c.if-out-ne-FIELD_LENGTH.false, offset-grains c.args.c c.from_mark-away.result c.from_mark-away.ensures c.if-away-ne0.false))
     (λ c. search rules)
-    (λ c. let t = c.before.before.before.before in let n = t.before.before.before.before in
-    put-field _ _ _ (export-taken _ _ _ n.before.if1.false (number_is n) t.before.before.if2.false (λ h. t.if3.false (t.before.state-of.ensures ∙ h)))
-    c.before.before.encode-field.ensures))
+    (λ c. put-field _ _ _ (export-taken _ _ _ c.if-out-ne-FIELD_LENGTH.false (number_is c.before.before.before.before.before.before.before.before.before) c.if-away-ne0.false (λ h. c.if-state_of-eq2.false (c.state_of.ensures ∙ h)))
+    c.encode_field.ensures))

@@ -37,17 +37,17 @@ accepted : (c : Card) (x y z : Float) → card_number c ≡ 0
 unfolding metres_of
 accepted c x y z h p q r = rw (h, p, q, r)
 
-number_is : (c : tie.After-from-mark) → c.from-mark.result.number ≡ card_number c.before.args.c
-number_is c = offset-number c.before.args.c c.from-mark.result c.from-mark.ensures
+number_is : (c : tie.After-from_mark-away) → c.from_mark-away.result.number ≡ card_number c.args.c
+number_is c = offset-number c.args.c c.from_mark-away.result c.from_mark-away.ensures
 
 -- the offset from the mark, and its size
-away-is : (c : tie.Else1) → c.before.before.from-mark.result.grains ≡ from_mark c.before.before.before.args.c.mark c.before.before.before.args.c.position
-away-is c = offset-grains c.before.before.before.args.c c.before.before.from-mark.result c.before.before.from-mark.ensures c.if1.false
+away-is : (c : tie.Else-away-ne0) → c.from_mark-away.result.grains ≡ from_mark c.args.c.mark c.args.c.position
+away-is c = offset-grains c.args.c c.from_mark-away.result c.from_mark-away.ensures c.if-away-ne0.false
 
-away : (c : tie.Else1) → Within 1461000000000 c.before.before.from-mark.result.grains
+away : (c : tie.Else-away-ne0) → Within 1461000000000 c.from_mark-away.result.grains
 away c =
-    let a = c.before.before.before.args.c in
-    subst⁻¹ (λ (v : Vec3). Within 1461000000000 v) (away-is c) (offset-small a.mark a.position (passed a (sym (number_is c.before.before) ∙ c.if1.false)).position)
+    let a = c.args.c in
+    subst⁻¹ (λ (v : Vec3). Within 1461000000000 v) (away-is c) (offset-small a.mark a.position (passed a (sym (number_is c.before.before) ∙ c.if-away-ne0.false)).position)
 
 -- one component, read back
 same : (z : ℤ) → nat_abs z ≤ 1461000000000 → rd z ≡ z
@@ -56,24 +56,23 @@ same z h = (at (plain z h) (lit< tt)).told
 asks : (z : ℤ) → nat_abs z ≤ 1461000000000 → nat_abs (rd z) ≤ 1461000000000
 asks z h = omega (arith, ap nat_abs (same z h))
 
-returns : tie.Need-returns
-returns c = refused c.before.before.before.args.c c.before.before.from-mark.result.number _ (number_is c.before.before) c.if1.true zero_is
+returns : tie.Need-returns-then-away-ne0
+returns c = refused c.args.c c.from_mark-away.result.number _ (number_is c.before.before) c.if-away-ne0.true zero_is
 
-in-metres-requires-3 : tie.Need-in-metres-requires-3
-in-metres-requires-3 c κs = asks c.before.before.before.before.before.before.before.from-mark.result.grains.z (away c.before.before.before.before.before).z
+in-metres-requires-3 : tie.Need-in_metres-requires-3
+in-metres-requires-3 c κs = asks c.from_mark-away.result.grains.z (away c.before.before.before.before.before).z
 
-returns-2 : tie.Need-returns-2
+returns-2 : tie.Need-returns
 returns-2 c =
-    let f = c.before.before.before.before.before.before in
-    let a = f.before.before.before.args.c in
-    accepted a _ _ _ (sym (number_is f.before.before) ∙ f.if1.false)
-    (c.before.before.before.before.in-metres.ensures ∙ ap in_metres (same _ (away f).x ∙ ap (λ (v : Vec3). v.x) (away-is f)))
-    (c.before.before.in-metres2.ensures ∙ ap in_metres (same _ (away f).y ∙ ap (λ (v : Vec3). v.y) (away-is f)))
-    (c.in-metres3.ensures ∙ ap in_metres (same _ (away f).z ∙ ap (λ (v : Vec3). v.z) (away-is f)))
+    let a = c.args.c in
+    accepted a _ _ _ (sym (number_is c.before.before.before.before.before.before.before.before) ∙ c.if-away-ne0.false)
+    (c.in_metres.ensures ∙ ap in_metres (same _ (away c.before.before.before.before.before.before).x ∙ ap (λ (v : Vec3). v.x) (away-is c.before.before.before.before.before.before)))
+    (c.in_metres-2.ensures ∙ ap in_metres (same _ (away c.before.before.before.before.before.before).y ∙ ap (λ (v : Vec3). v.y) (away-is c.before.before.before.before.before.before)))
+    (c.in_metres-3.ensures ∙ ap in_metres (same _ (away c.before.before.before.before.before.before).z ∙ ap (λ (v : Vec3). v.z) (away-is c.before.before.before.before.before.before)))
 
-pub metres-out-spec : {M : Type 1} → statement M
-metres-out-spec =
+pub metres_out_spec : {M : Type 1} → statement M
+metres_out_spec =
     tie.close
-    (tie.spec (λ c κs. search rules) returns (λ c κs. asks c.before.before.before.from-mark.result.grains.x (away c.before).x)
-    (λ c κs. asks c.before.before.before.before.before.from-mark.result.grains.y (away c.before.before.before).y)
+    (tie.spec (λ c κs. search rules) returns (λ c κs. asks c.from_mark-away.result.grains.x (away c.before).x)
+    (λ c κs. asks c.from_mark-away.result.grains.y (away c.before.before.before).y)
     in-metres-requires-3 returns-2)

@@ -7,20 +7,20 @@ use Rattle.records.proofs.BytesLaws.{same-call}
 use Rattle.records.proofs.call_bytes.Statement.{statement}
 use Rattle.records.proofs.call_bytes.Tie as tie
 
-pub call-bytes-spec : {M : Type 1} → statement M
-call-bytes-spec =
+pub call_bytes_spec : {M : Type 1} → statement M
+call_bytes_spec =
     tie.close
     (tie.spec (λ c. search rules) (λ c κs. search rules) (λ c. search rules) (λ c κs. search rules) (λ c. search rules) (λ c κs. search rules)
     (λ c. search rules) (λ c κs. search rules) (λ c. search rules) (λ c κs. search rules) (λ c. search rules) (λ c κs. search rules) (λ c. search rules)
-    (λ c. let t = c.before.before.before.before in let k = t.before.k.given in
-    same-call _ _ _ _ _ _ (ap move (answered k.0.0 t.known-told.given.0.1) ∙ sym (ap call_of k.1)) c.before.before.move-by.ensures)
+    (λ c. let k = c.k.given in
+    same-call _ _ _ _ _ _ (ap move (answered k.0.0 c.known_told-1.given.0.1) ∙ sym (ap call_of k.1)) c.move_by.ensures)
     (λ c. search rules)
-    (λ c. same-call _ _ _ _ _ _ (sym (ap call_of c.before.before.before.before.before.k2.given.1)) c.before.before.to-frame.ensures)
+    (λ c. same-call _ _ _ _ _ _ (sym (ap call_of c.k-in-Frame-1.given.1)) c.to_frame.ensures)
     (λ c. search rules)
-    (λ c. same-call _ _ _ _ _ _ (sym (ap call_of c.before.before.before.before.enum_told.given.1)) c.before.before.mean-on.ensures)
+    (λ c. same-call _ _ _ _ _ _ (sym (ap call_of c.enum_told-1.given.1)) c.mean_on.ensures)
     (λ c. search rules)
-    (λ c. same-call _ _ _ _ _ _ (sym (ap call_of c.before.before.before.before.enum-told2.given.1)) c.before.before.mean-off.ensures)
+    (λ c. same-call _ _ _ _ _ _ (sym (ap call_of c.enum_told-in-MeanOff-1.given.1)) c.mean_off.ensures)
     (λ c. search rules)
-    (λ c. same-call _ _ _ _ _ _ (sym (ap call_of c.before.before.before.before.before.k3.given.1)) c.before.before.solid-on.ensures)
+    (λ c. same-call _ _ _ _ _ _ (sym (ap call_of c.k-in-SolidOn-1.given.1)) c.solid_on.ensures)
     (λ c. search rules)
-    (λ c. same-call _ _ _ _ _ _ (sym (ap call_of c.before.before.before.before.enum-told3.given.1)) c.before.before.solid-off.ensures))
+    (λ c. same-call _ _ _ _ _ _ (sym (ap call_of c.enum_told-in-SolidOff-1.given.1)) c.solid_off.ensures))

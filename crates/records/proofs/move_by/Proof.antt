@@ -8,11 +8,10 @@ use Rattle.records.proofs.BytesLaws.{bytes-unopened, bytes-stepped}
 use Rattle.records.proofs.move_by.Statement.{statement}
 use Rattle.records.proofs.move_by.Tie as tie
 
-pub move-by-spec : {M : Type 1} → statement M
-move-by-spec =
+pub move_by_spec : {M : Type 1} → statement M
+move_by_spec =
     tie.close
-    (tie.spec (λ c κs. search rules) (λ c. bytes-unopened _ _ _ c.before.before.opened.ensures _ c.if1.true) (λ c κs. search rules) (λ c κs. search rules) (λ c. search rules)
-    (λ c. let p = c.before.before.before.before in let o = p.before.before.before in
-    bytes-stepped _ _ _ o.opened.ensures p.before.if1.false _ _
-    (p.move-by.ensures ∙ ap (λ (d : ℤ). step o.opened.result.card (move d)) (to_z-of_z o.before.before.before.ranges.d))
-    _ _ c.before.before.put.ensures))
+    (tie.spec (λ c κs. search rules) (λ c. bytes-unopened _ _ _ c.opened-o.ensures _ c.if-o-ne0.true) (λ c κs. search rules) (λ c κs. search rules) (λ c. search rules)
+    (λ c. bytes-stepped _ _ _ c.opened-o.ensures c.if-o-ne0.false _ _
+    (c.move_by.ensures ∙ ap (λ (d : ℤ). step c.opened-o.result.card (move d)) (to_z-of_z c.ranges.d))
+    _ _ c.put.ensures))

@@ -4,8 +4,8 @@ use Rattle.records.proofs.BytesLaws.{bytes-unopened, bytes-stepped}
 use Rattle.records.proofs.solid_on.Statement.{statement}
 use Rattle.records.proofs.solid_on.Tie as tie
 
-pub solid-on-spec : {M : Type 1} → statement M
-solid-on-spec =
+pub solid_on_spec : {M : Type 1} → statement M
+solid_on_spec =
     tie.close
-    (tie.spec (λ c κs. search rules) (λ c. bytes-unopened _ _ _ c.before.before.opened.ensures _ c.if1.true) (λ c κs. search rules) (λ c κs. search rules) (λ c. search rules)
-    (λ c. let p = c.before.before.before.before in let o = p.before.before.before in bytes-stepped _ _ _ o.opened.ensures p.before.if1.false _ _ p.solid-on.ensures _ _ c.before.before.put.ensures))
+    (tie.spec (λ c κs. search rules) (λ c. bytes-unopened _ _ _ c.opened-o.ensures _ c.if-o-ne0.true) (λ c κs. search rules) (λ c κs. search rules) (λ c. search rules)
+    (λ c. bytes-stepped _ _ _ c.opened-o.ensures c.if-o-ne0.false _ _ c.solid_on.ensures _ _ c.put.ensures))

@@ -24,24 +24,24 @@ unfolding decode
 whole s site e a b c d h k p q r u = cc
 
 -- the length is card_length
-returns : tie.Need-returns
-returns c = absurd (c.before.before.if1.true c.before.before.before.before.requires)
+returns : tie.Need-returns-then-s-ne-CARD_LENGTH
+returns c = absurd (c.if-s-ne-CARD_LENGTH.true c.requires)
 
-returns-2 : tie.Need-returns-2
+returns-2 : tie.Need-returns
 returns-2 c =
-    let epoch = c.before.before.before.before.signed-at in
-    let site = c.before.before.before.before.before.before.before.site-of in
-    whole c.before.before.before.before.before.before.before.before.before.before.args.s.now site.result (to_z w64 (of_z w64 epoch.result))
-    c.before.before.before.vector-at.result c.before.before.vector-at2.result c.before.vector-at3.result c.vector-at4.result
+    let epoch = c.signed_at in
+    let site = c.site_of-site in
+    whole c.args.s.now site.result (to_z w64 (of_z w64 epoch.result))
+    c.vector_at.result c.vector_at-2.result c.vector_at-3.result c.vector_at-4.result
     (site.ensures ∙ site-long _ (omega arith))
     (answered epoch.result epoch.type_inv ∙ epoch.ensures)
-    c.before.before.before.vector-at.ensures
-    c.before.before.vector-at2.ensures
-    c.before.vector-at3.ensures
-    c.vector-at4.ensures
+    c.vector_at.ensures
+    c.vector_at-2.ensures
+    c.vector_at-3.ensures
+    c.vector_at-4.ensures
 
-pub decode-spec : {M : Type 1} → statement M
-decode-spec =
+pub decode_spec : {M : Type 1} → statement M
+decode_spec =
     tie.close
     (tie.spec (λ c κs. search rules) returns (λ c κs. search rules) (λ c. search rules) (λ c. search rules) (λ c κs. search rules)
     (λ c κs. search rules) (λ c κs. search rules) (λ c κs. search rules) (λ c κs. search rules) returns-2)

@@ -26,25 +26,18 @@ all s a b m v p t c l n e₁ e₂ e₃ e₄ e₅ e₆ = cc (put-card s c l n)
 
 returns : tie.Need-returns
 returns c =
-    let p4 = c.before.before in
-    let p3 = p4.before.before.before.before in
-    let p2 = p3.before.before.before.before in
-    let p1 = p2.before.before.before.before in
-    let ps = p1.before.before.before.before in
-    let ph = ps.before.before.before.before.before in
-    let start = ph.before.before.before.before in
-    let told = ps.before.struct_told.given in
-    all start.args.out.now ph.put-head.new.0 ps.put-signed.new.0 p1.put_vector.new.0 p2.put-vector2.new.0 p3.put-vector3.new.0
-    p4.put-vector4.new.0 start.args.c start.requires (simp length-map at told.0.1.0.1)
-    ph.put-head.ensures
-    (ps.put-signed.ensures ∙ ap (λ (z : ℤ). splice ph.put-head.new.0 12 (bytes_of 4 z)) (answered start.args.c.epoch told.1.1.1.0.1))
-    p1.put_vector.ensures
-    p2.put-vector2.ensures
-    p3.put-vector3.ensures
-    p4.put-vector4.ensures
+    let told = c.struct_told-1.given in
+    all c.args.out.now c.put_head.new.out c.put_signed.new.out c.put_vector.new.out c.put_vector-2.new.out c.put_vector-3.new.out
+    c.put_vector-4.new.out c.args.c c.requires told.0.1.0.1
+    c.put_head.ensures
+    (c.put_signed.ensures ∙ ap (λ (z : ℤ). splice c.put_head.new.out 12 (bytes_of 4 z)) (answered c.args.c.epoch told.1.1.1.0.1))
+    c.put_vector.ensures
+    c.put_vector-2.ensures
+    c.put_vector-3.ensures
+    c.put_vector-4.ensures
 
-pub encode-spec : {M : Type 1} → statement M
-encode-spec =
+pub encode_spec : {M : Type 1} → statement M
+encode_spec =
     tie.close
     (tie.spec (λ c κs. search rules) (λ c κs. search rules) (λ c κs. search rules) (λ c κs. search rules) (λ c κs. search rules)
     (λ c κs. search rules) (λ c. search rules) returns)

@@ -37,30 +37,21 @@ all s a b m o v t c offset speed l n e f e₁ e₂ e₃ e₄ e₅ e₆ = cc (put
 
 returns : tie.Need-returns
 returns c =
-    let pb = c.before.before in
-    let p3 = pb.before.before.before.before.before in
-    let p2 = p3.before.before.before.before in
-    let p1 = p2.before.before.before.before in
-    let ps = p1.before.before.before.before in
-    let ph = ps.before.before.before.before.before in
-    let r2 = ph.before.before.before in
-    let r1 = r2.before in
-    let start = r1.before.before in
-    let told = ps.before.struct_told.given in
-    let card = start.args.c in
-    all start.args.out.now ph.put-head.new.0 ps.put-signed.new.0 p1.put_vector.new.0 p2.put-vector2.new.0 p3.put-vector3.new.0
-    pb.put-bytes.new.0 card r1.rounded.result r2.rounded2.result start.requires.0 (simp length-map at told.0.1.0.1)
-    (offset-is card start.args.away r1.rounded.result start.requires.1 r1.rounded.ensures)
-    (speed-is card r2.rounded2.result r2.rounded2.ensures)
-    ph.put-head.ensures
-    (ps.put-signed.ensures ∙ ap (λ (z : ℤ). splice ph.put-head.new.0 12 (bytes_of 4 z)) (answered card.epoch told.1.1.1.0.1))
-    p1.put_vector.ensures
-    p2.put-vector2.ensures
-    p3.put-vector3.ensures
-    pb.put-bytes.ensures
+    let told = c.struct_told-1.given in
+    let card = c.args.c in
+    all c.args.out.now c.put_head.new.out c.put_signed.new.out c.put_vector.new.out c.put_vector-2.new.out c.put_vector-3.new.out
+    c.put_bytes.new.out card c.rounded-offset.result c.rounded-speed.result c.requires.0 told.0.1.0.1
+    (offset-is card c.args.away c.rounded-offset.result c.requires.1 c.rounded-offset.ensures)
+    (speed-is card c.rounded-speed.result c.rounded-speed.ensures)
+    c.put_head.ensures
+    (c.put_signed.ensures ∙ ap (λ (z : ℤ). splice c.put_head.new.out 12 (bytes_of 4 z)) (answered card.epoch told.1.1.1.0.1))
+    c.put_vector.ensures
+    c.put_vector-2.ensures
+    c.put_vector-3.ensures
+    c.put_bytes.ensures
 
-pub encode-field-spec : {M : Type 1} → statement M
-encode-field-spec =
+pub encode_field_spec : {M : Type 1} → statement M
+encode_field_spec =
     tie.close
     (tie.spec (λ c κs. search rules) (λ c κs. search rules) (λ c κs. search rules) (λ c κs. search rules) (λ c κs. search rules)
     (λ c κs. search rules) (λ c κs. search rules) (λ c. search rules) (λ c κs. search rules) (λ c. search rules) returns)

@@ -1,4 +1,5 @@
 -- `field::record::expanded` meets its contract. Assumes nothing.
+use mir.Syntax.{w64}
 use mathlib.Core.Path.{◌≡◌}
 use Prim.Native.Nat.{◌+◌, ◌*◌, ◌≤◌}
 use lib.Dec.{lit<}
@@ -63,51 +64,50 @@ position-is f p q r = vec≡ p q r
 
 -- ---- the needs
 
-mul-t8 : tie.Need-overflow-mul-t8
-mul-t8 c = let s = c.before.before.before.before.before.before.before.before.before.before in fit (grains s.args.f.mark.x (mark s).x) (lit< tt)
+mul-t8 : tie.Need-overflow_mul-result-4
+mul-t8 c = fit (grains c.args.f.mark.x (mark c.before.before.before.before.before.before.before.before.before.before).x) (lit< tt)
 
-mul-t9 : tie.Need-overflow-mul-t9
-mul-t9 c = let s = c.before.before.before.before.before.before.before.before.before.before.before.before in fit (away s.args.f.offset.x (offset s).x) (lit< tt)
+mul-t9 : tie.Need-overflow_mul-result-5
+mul-t9 c = fit (away c.args.f.offset.x (offset c.before.before.before.before.before.before.before.before.before.before.before.before).x) (lit< tt)
 
-add-t10 : tie.Need-overflow-add-t10
-add-t10 c = let s = c.before.before.before.before.before.before.before.before.before.before.before.before in fit (place s.args.f.mark.x s.args.f.offset.x (mark s).x (offset s).x) (lit< tt)
+add-t10 : tie.Need-overflow_add-result
+add-t10 c = fit (place c.args.f.mark.x c.args.f.offset.x (mark c.before.before.before.before.before.before.before.before.before.before.before.before).x (offset c.before.before.before.before.before.before.before.before.before.before.before.before).x) (lit< tt)
 
-mul-t11 : tie.Need-overflow-mul-t11
-mul-t11 c = let s = c.before.before.before.before.before.before.before.before.before.before.before.before.before.before in fit (grains s.args.f.mark.y (mark s).y) (lit< tt)
+mul-t11 : tie.Need-overflow_mul-result-6
+mul-t11 c = fit (grains c.args.f.mark.y (mark c.before.before.before.before.before.before.before.before.before.before.before.before.before.before).y) (lit< tt)
 
-mul-t12 : tie.Need-overflow-mul-t12
-mul-t12 c = let s = c.before.before.before.before.before.before.before.before.before.before.before.before.before.before.before.before in fit (away s.args.f.offset.y (offset s).y) (lit< tt)
+mul-t12 : tie.Need-overflow_mul-result-7
+mul-t12 c = fit (away c.args.f.offset.y (offset c.before.before.before.before.before.before.before.before.before.before.before.before.before.before.before.before).y) (lit< tt)
 
-add-t13 : tie.Need-overflow-add-t13
-add-t13 c = let s = c.before.before.before.before.before.before.before.before.before.before.before.before.before.before.before.before in fit (place s.args.f.mark.y s.args.f.offset.y (mark s).y (offset s).y) (lit< tt)
+add-t13 : tie.Need-overflow_add-result-2
+add-t13 c = fit (place c.args.f.mark.y c.args.f.offset.y (mark c.before.before.before.before.before.before.before.before.before.before.before.before.before.before.before.before).y (offset c.before.before.before.before.before.before.before.before.before.before.before.before.before.before.before.before).y) (lit< tt)
 
-mul-t14 : tie.Need-overflow-mul-t14
-mul-t14 c = let s = c.before.before.before.before.before.before.before.before.before.before.before.before.before.before.before.before.before.before in fit (grains s.args.f.mark.z (mark s).z) (lit< tt)
+mul-t14 : tie.Need-overflow_mul-result-8
+mul-t14 c = fit (grains c.args.f.mark.z (mark c.before.before.before.before.before.before.before.before.before.before.before.before.before.before.before.before.before.before).z) (lit< tt)
 
-mul-t15 : tie.Need-overflow-mul-t15
-mul-t15 c = let s = c.before.before.before.before.before.before.before.before.before.before.before.before.before.before.before.before.before.before.before.before in fit (away s.args.f.offset.z (offset s).z) (lit< tt)
+mul-t15 : tie.Need-overflow_mul-result-9
+mul-t15 c = fit (away c.args.f.offset.z (offset c.before.before.before.before.before.before.before.before.before.before.before.before.before.before.before.before.before.before.before.before).z) (lit< tt)
 
-add-t16 : tie.Need-overflow-add-t16
-add-t16 c = let s = c.before.before.before.before.before.before.before.before.before.before.before.before.before.before.before.before.before.before.before.before in fit (place s.args.f.mark.z s.args.f.offset.z (mark s).z (offset s).z) (lit< tt)
+add-t16 : tie.Need-overflow_add-result-3
+add-t16 c = fit (place c.args.f.mark.z c.args.f.offset.z (mark c.before.before.before.before.before.before.before.before.before.before.before.before.before.before.before.before.before.before.before.before).z (offset c.before.before.before.before.before.before.before.before.before.before.before.before.before.before.before.before.before.before.before.before).z) (lit< tt)
 
 returns : tie.Need-returns
 returns c =
-    let s = c.before.before.before.before.before.before.before.before.before.before.before.before.before.before.before.before.before.before.before.before.before in
-    let f = s.args.f in
-    card-is f _ _ _ (to_z-of_z (record { sfits = c.struct-told10.given.1.1.1.0.1 }))
+    let f = c.args.f in
+    card-is f _ _ _ (to_z-of_z {w = w64} (record { sfits = c.struct_told-10-1.given.1.1.1.0.1 }))
     (velocity-is f
-    (at (fast f.speed.x (speed s).x) (lit< tt)).told
-    (at (fast f.speed.y (speed s).y) (lit< tt)).told
-    (at (fast f.speed.z (speed s).z) (lit< tt)).told)
+    (at (fast f.speed.x (speed c.before.before.before.before.before.before.before.before.before.before.before.before.before.before.before.before.before.before.before.before.before).x) (lit< tt)).told
+    (at (fast f.speed.y (speed c.before.before.before.before.before.before.before.before.before.before.before.before.before.before.before.before.before.before.before.before.before).y) (lit< tt)).told
+    (at (fast f.speed.z (speed c.before.before.before.before.before.before.before.before.before.before.before.before.before.before.before.before.before.before.before.before.before).z) (lit< tt)).told)
     (position-is f
-    (at (place f.mark.x f.offset.x (mark s).x (offset s).x) (lit< tt)).told
-    (at (place f.mark.y f.offset.y (mark s).y (offset s).y) (lit< tt)).told
-    (at (place f.mark.z f.offset.z (mark s).z (offset s).z) (lit< tt)).told)
+    (at (place f.mark.x f.offset.x (mark c.before.before.before.before.before.before.before.before.before.before.before.before.before.before.before.before.before.before.before.before.before).x (offset c.before.before.before.before.before.before.before.before.before.before.before.before.before.before.before.before.before.before.before.before.before).x) (lit< tt)).told
+    (at (place f.mark.y f.offset.y (mark c.before.before.before.before.before.before.before.before.before.before.before.before.before.before.before.before.before.before.before.before.before).y (offset c.before.before.before.before.before.before.before.before.before.before.before.before.before.before.before.before.before.before.before.before.before).y) (lit< tt)).told
+    (at (place f.mark.z f.offset.z (mark c.before.before.before.before.before.before.before.before.before.before.before.before.before.before.before.before.before.before.before.before.before).z (offset c.before.before.before.before.before.before.before.before.before.before.before.before.before.before.before.before.before.before.before.before.before).z) (lit< tt)).told)
 
-pub expanded-spec : {M : Type 1} → statement M
-expanded-spec =
+pub expanded_spec : {M : Type 1} → statement M
+expanded_spec =
     tie.close
-    (tie.spec (λ c. let s = c.before.before.before.before in fit (fast s.args.f.speed.x (speed s).x) (lit< tt))
-    (λ c. let s = c.before.before.before.before.before.before in fit (fast s.args.f.speed.y (speed s).y) (lit< tt))
-    (λ c. let s = c.before.before.before.before.before.before.before.before in fit (fast s.args.f.speed.z (speed s).z) (lit< tt))
+    (tie.spec (λ c. fit (fast c.args.f.speed.x (speed c.before.before.before.before).x) (lit< tt))
+    (λ c. fit (fast c.args.f.speed.y (speed c.before.before.before.before.before.before).y) (lit< tt))
+    (λ c. fit (fast c.args.f.speed.z (speed c.before.before.before.before.before.before.before.before).z) (lit< tt))
     mul-t8 mul-t9 add-t10 mul-t11 mul-t12 add-t13 mul-t14 mul-t15 add-t16 returns)

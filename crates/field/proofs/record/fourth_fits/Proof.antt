@@ -6,8 +6,8 @@ use Rattle.algebra.proofs.BoolLaws.{and_first, true-and}
 use Rattle.field.proofs.record.fourth_fits.Statement.{statement}
 use Rattle.field.proofs.record.fourth_fits.Tie as tie
 
-pub fourth-fits-spec : {M : Type 1} → statement M
-fourth-fits-spec =
+pub fourth_fits_spec : {M : Type 1} → statement M
+fourth_fits_spec =
     tie.close
-    (tie.spec (λ c. let a = c.before.args in sym (and_first a.zeros (leb a.byte 1) (not-true a.zeros c.if1.true)))
-    (λ c. let a = c.before.args in true-and a.zeros (leb a.byte 1) (not-false a.zeros c.if1.false)))
+    (tie.spec (λ c. sym (and_first c.args.zeros (leb c.args.byte 1) (c.if-not-zeros.true)))
+    (λ c. true-and c.args.zeros (leb c.args.byte 1) (c.if-not-zeros.false)))

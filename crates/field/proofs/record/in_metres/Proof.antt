@@ -20,15 +20,15 @@ metre : of_bits binary64 4743914686137761792 ≡ of_int binary64 (pos 1461000000
 unfolding of_bits of_int
 metre = refl
 
-int-to-float-result : tie.Need-int-to-float-result
+int-to-float-result : tie.Need-int_to_float-result
 int-to-float-result c =
-    subst⁻¹ (λ (z : ℤ). T (in_float binary64 z)) (to_z-of_z c.before.ranges.z) (exact c.before.args.z c.before.requires)
+    subst⁻¹ (λ (z : ℤ). T (in_float binary64 z)) (to_z-of_z c.ranges.z) (exact c.args.z c.requires)
 
 divided : (x z : ℤ) (d : Float) → x ≡ z → d ≡ of_int binary64 (pos 1461000000) → div binary64 (of_int binary64 x) d ≡ in_metres z
 unfolding in_metres
 divided x z d p q = ap₂ (λ (y : ℤ) (e : Float). div binary64 (of_int binary64 y) e) p q
 
-pub in-metres-spec : {M : Type 1} → statement M
-in-metres-spec =
+pub in_metres_spec : {M : Type 1} → statement M
+in_metres_spec =
     tie.close
-    (tie.spec int-to-float-result (λ c. divided _ c.before.args.z _ (to_z-of_z c.before.ranges.z) metre))
+    (tie.spec int-to-float-result (λ c. divided _ c.args.z _ (to_z-of_z c.ranges.z) metre))

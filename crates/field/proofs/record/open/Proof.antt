@@ -25,15 +25,15 @@ whole s site e a b c h k p q r = cc
 
 returns : tie.Need-returns
 returns c =
-    let epoch = c.before.before.before.signed-at in
-    let site = c.before.before.before.before.before.before.site-of in
-    whole c.before.before.before.before.before.before.before.before.args.s.now site.result (to_z w64 (of_z w64 epoch.result))
-    c.before.before.vector-at.result c.before.vector-at2.result c.vector-at3.result
+    let epoch = c.signed_at in
+    let site = c.site_of-site in
+    whole c.args.s.now site.result (to_z w64 (of_z w64 epoch.result))
+    c.vector_at.result c.vector_at-2.result c.vector_at-3.result
     (site.ensures ∙ site-long _ (omega arith))
     (answered epoch.result epoch.type_inv ∙ epoch.ensures)
-    c.before.before.vector-at.ensures
-    c.before.vector-at2.ensures
-    c.vector-at3.ensures
+    c.vector_at.ensures
+    c.vector_at-2.ensures
+    c.vector_at-3.ensures
 
 pub open_spec : {M : Type 1} → statement M
 open_spec =

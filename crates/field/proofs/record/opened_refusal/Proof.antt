@@ -1,4 +1,5 @@
 -- `field::record::opened_refusal` meets its contract: the shared checks, then 7 and 8. Assumes nothing.
+use mir.Syntax.{w64}
 use mathlib.Core.Path.{◌≡◌, refl, sym, ap₂, ◌∙◌}
 use mathlib.Core.Bool.{Bool, true, not, ◌&&◌}
 use mathlib.Core.List.{[], ◌∷◌, ◌++◌}
@@ -38,52 +39,38 @@ all-positive z f = refl
 
 -- ---- the tests
 
-from2-is : (c : tie.After-check-head) → let s = c.before.before.before.before in c.check-head.result ≡ first (from2 s.args.zeros s.args.f)
+from2-is : (c : tie.After-check_head-number) → c.check_head-number.result ≡ first (from2 c.args.zeros c.args.f)
 from2-is c =
-    let t = c.before in
-    let s = t.before.before.before in
-    c.check-head.ensures
-    ∙ ap₂ (λ (b : Bool) (e : ℤ). first (head_checks s.args.f.site s.args.f.frame b e s.args.f.mark)) t.before.fourth-fits.ensures
-    (to_z-of_z (record { sfits = t.struct_told.given.1.1.1.0.1 }))
+    c.check_head-number.ensures
+    ∙ ap₂ (λ (b : Bool) (e : ℤ). first (head_checks c.args.f.site c.args.f.frame b e c.args.f.mark)) c.fourth_fits-fits.ensures
+    (to_z-of_z {w = w64} (record { sfits = c.struct_told-1.given.1.1.1.0.1 }))
 
-returns : tie.Need-returns
+returns : tie.Need-returns-then-number-ne0
 returns c =
-    let h = c.before in
-    let a = h.before.before.before.before.args in
-    let e = from2-is h in
-    e ∙ sym (stays (from2 a.zeros a.f) (from7 a.f) (pos_of_ne-zero (λ z. c.if1.true (e ∙ z)))) ∙ whole a.zeros a.f
+    let e = from2-is c.before in
+    e ∙ sym (stays (from2 c.args.zeros c.args.f) (from7 c.args.f) (pos_of_ne-zero (λ z. c.if-number-ne0.true (e ∙ z)))) ∙ whole c.args.zeros c.args.f
 
-on1 : (c : tie.Else1) → let a = c.before.before.before.before.before.args in first (from7 a.f) ≡ first (opened_checks a.zeros a.f)
+on1 : (c : tie.Else-number-ne0) → first (from7 c.args.f) ≡ first (opened_checks c.args.zeros c.args.f)
 on1 c =
-    let h = c.before in
-    let a = h.before.before.before.before.args in
-    sym (onward (from2 a.zeros a.f) (from7 a.f) (all-positive a.zeros a.f) (sym (from2-is h) ∙ c.if1.false)) ∙ whole a.zeros a.f
+    sym (onward (from2 c.args.zeros c.args.f) (from7 c.args.f) (all-positive c.args.zeros c.args.f) (sym (from2-is c.before) ∙ c.if-number-ne0.false)) ∙ whole c.args.zeros c.args.f
 
-on2 : (c : tie.Else2) → let a = c.before.before.before.before.before.before.before.args in first (from8 a.f) ≡ first (opened_checks a.zeros a.f)
+on2 : (c : tie.Else-not-sized) → first (from8 c.args.f) ≡ first (opened_checks c.args.zeros c.args.f)
 on2 c =
-    let v = c.before in
-    let a = v.before.before.before.before.before.before.args in
-    passed 7 (sized 5000 a.f.speed) (from8 a.f) (sym v.sized.ensures ∙ not-false v.sized.result c.if2.false) ∙ on1 v.before
+    passed 7 (sized 5000 c.args.f.speed) (from8 c.args.f) (sym c.sized.ensures ∙ c.if-not-sized.false) ∙ on1 c.before.before.before
 
-returns-2 : tie.Need-returns-2
+returns-2 : tie.Need-returns-then-not-sized
 returns-2 c =
-    let v = c.before in
-    let a = v.before.before.before.before.before.before.args in
-    stopped 7 (sized 5000 a.f.speed) (from8 a.f) (sym v.sized.ensures ∙ not-true v.sized.result c.if2.true) ∙ on1 v.before
+    stopped 7 (sized 5000 c.args.f.speed) (from8 c.args.f) (sym c.sized.ensures ∙ c.if-not-sized.true) ∙ on1 c.before.before.before
 
-returns-3 : tie.Need-returns-3
+returns-3 : tie.Need-returns-then-not-sized-2
 returns-3 c =
-    let o = c.before in
-    let a = o.before.before.before.before.before.before.before.before.args in
-    stopped 8 (sized 10000000 a.f.offset) [] (sym o.sized2.ensures ∙ not-true o.sized2.result c.if3.true) ∙ on2 o.before
+    stopped 8 (sized 10000000 c.args.f.offset) [] (sym c.sized-2.ensures ∙ c.if-not-sized-2.true) ∙ on2 c.before.before.before
 
-returns-4 : tie.Need-returns-4
+returns-4 : tie.Need-returns
 returns-4 c =
-    let o = c.before in
-    let a = o.before.before.before.before.before.before.before.before.args in
-    passed-last 8 (sized 10000000 a.f.offset) (sym o.sized2.ensures ∙ not-false o.sized2.result c.if3.false) ∙ on2 o.before
+    passed-last 8 (sized 10000000 c.args.f.offset) (sym c.sized-2.ensures ∙ c.if-not-sized-2.false) ∙ on2 c.before.before.before
 
-pub opened-refusal-spec : {M : Type 1} → statement M
-opened-refusal-spec =
+pub opened_refusal_spec : {M : Type 1} → statement M
+opened_refusal_spec =
     tie.close
     (tie.spec (λ c κs. search rules) (λ c κs. search rules) returns (λ c κs. search rules) returns-2 (λ c κs. search rules) returns-3 returns-4)

@@ -20,13 +20,10 @@ returns : tie.Need-returns
 unfolding rounded_by
 returns c =
     let third = c in
-    let second = c.before.before in
-    let first = second.before.before in
-    let a = first.before.before.args in
     vec≡
-    (came a.b a.v.x first.near.result (record { sfits = first.before.struct_told.given.0.1 }) (record { sfits = first.near.type_inv }) first.near.ensures)
-    (came a.b a.v.y second.near2.result (record { sfits = second.before.struct-told2.given.1.0.1 }) (record { sfits = second.near2.type_inv }) second.near2.ensures)
-    (came a.b a.v.z third.near3.result (record { sfits = third.before.struct-told3.given.1.1.0.1 }) (record { sfits = third.near3.type_inv }) third.near3.ensures)
+    (came c.args.b c.args.v.x c.near.result (record { sfits = c.struct_told-1.given.0.1 }) (record { sfits = c.near.type_inv }) c.near.ensures)
+    (came c.args.b c.args.v.y c.near-2.result (record { sfits = c.struct_told-2-1.given.1.0.1 }) (record { sfits = c.near-2.type_inv }) c.near-2.ensures)
+    (came c.args.b c.args.v.z third.near-3.result (record { sfits = third.struct_told-3-1.given.1.1.0.1 }) (record { sfits = third.near-3.type_inv }) third.near-3.ensures)
 
-pub rounded-spec : {M : Type 1} → statement M
-rounded-spec = tie.close (tie.spec (λ c κs. search rules) (λ c κs. search rules) (λ c κs. search rules) returns)
+pub rounded_spec : {M : Type 1} → statement M
+rounded_spec = tie.close (tie.spec (λ c κs. search rules) (λ c κs. search rules) (λ c κs. search rules) returns)

@@ -23,9 +23,9 @@ at-47 : (s : List ℕ) → get_or s 11 0 ≡ 0 → get_or s 46 0 ≡ 0 → eqb (
 unfolding zero_bytes
 at-47 s e f = rw (eq-eqb (get_or s 11 0) 0 e, eq-eqb (get_or s 46 0) 0 f)
 
-pub zero-bytes-spec : {M : Type 1} → statement M
-zero-bytes-spec =
+pub zero_bytes_spec : {M : Type 1} → statement M
+zero_bytes_spec =
     tie.close
-    (tie.spec (λ c. search rules) (λ c. at-11 c.before.before.args.s.now c.if1.true) (λ c. search rules)
-    (λ c. at-46 c.before.before.before.before.args.s.now c.before.before.if1.false c.if2.true) (λ c. search rules)
-    (λ c. at-47 c.before.before.before.before.before.args.s.now c.before.before.before.if1.false c.before.if2.false))
+    (tie.spec (λ c. search rules) (λ c. at-11 c.args.s.now c.if-s-ne0.true) (λ c. search rules)
+    (λ c. at-46 c.args.s.now c.if-s-ne0.false c.if-s-ne0-2.true) (λ c. search rules)
+    (λ c. at-47 c.args.s.now c.if-s-ne0.false c.if-s-ne0-2.false))
