@@ -19,10 +19,10 @@ pub record Going (s : List ℕ) (at place : ℕ) : Type 0 where
   pub within : at ≤ length s
   pub left : first_bad (number_at s) 0 (length s / card_length) ≡ first_bad (number_at s) place ((length s - at) / card_length)
 
-abbrev invariant-loop : tie.invariant-loop
+abbrev invariant-loop : tie.invariant-loop-at
 invariant-loop catalogue at₀ place₀ at place = Going catalogue at place
 
-abbrev decreases-loop : tie.decreases-loop
+abbrev decreases-loop : tie.decreases-loop-at
 decreases-loop catalogue at₀ place₀ at place = length catalogue - at
 
 -- ---- the answers
@@ -44,58 +44,56 @@ number_is s at place n e h =
 
 -- ---- the needs
 
-loop-holds : tie.Need-loop-init invariant-loop decreases-loop
+loop-holds : tie.Need-loop-at-init invariant-loop decreases-loop
 loop-holds c =
-    let s = c.before.before.args.catalogue.now in
-    record { whole = c.if1.false; steps = refl; within = omega arith; left = ap (λ (n : ℕ). first_bad (number_at s) 0 (n / card_length)) (omega arith) }
+    let s = c.args.catalogue.now in
+    record { whole = c.if-catalogue-ne0.false; steps = refl; within = omega arith; left = ap (λ (n : ℕ). first_bad (number_at s) 0 (n / card_length)) (omega arith) }
 
 -- a whole card is left
-room : (c : tie.In-loop invariant-loop decreases-loop) → c.before.loop.at + card_length ≤ length c.before.before.before.before.args.catalogue.now
-room c = let i = c.before.loop.invariant in omega (arith, i.whole, i.steps, c.loop-test.true)
+room : (c : tie.In-loop-at invariant-loop decreases-loop) → c.loop-at.at + card_length ≤ length c.args.catalogue.now
+room c = let i = c.loop-at.invariant in omega (arith, i.whole, i.steps, c.loop-at-test.true)
 
 -- how many are left here, and after this one
-more : (c : tie.In-loop invariant-loop decreases-loop) → let n = length c.before.before.before.before.args.catalogue.now in let at = c.before.loop.at in (n - at) / card_length ≡ suc ((n - (at + card_length)) / card_length)
-more c = let i = c.before.loop.invariant in omega (arith, i.whole, i.steps, room c)
+more : (c : tie.In-loop-at invariant-loop decreases-loop) → let n = length c.args.catalogue.now in let at = c.loop-at.at in (n - at) / card_length ≡ suc ((n - (at + card_length)) / card_length)
+more c = let i = c.loop-at.invariant in omega (arith, i.whole, i.steps, room c)
 
-card-is : (c : tie.After-check invariant-loop decreases-loop) → c.check.result ≡ number_at c.before.before.before.before.before.before.args.catalogue.now c.before.before.before.loop.place
+card-is : (c : tie.After-check-number invariant-loop decreases-loop) → c.check-number.result ≡ number_at c.args.catalogue.now c.loop-at.place
 card-is c =
-    let l = c.before.before.before.loop in
-    number_is c.before.before.before.before.before.before.args.catalogue.now l.at l.place c.check.result l.invariant.steps c.check.ensures
+    let l = c.loop-at in
+    number_is c.args.catalogue.now l.at l.place c.check-number.result l.invariant.steps c.check-number.ensures
 
-returns-2 : tie.Need-returns-2 invariant-loop decreases-loop
+returns-2 : tie.Need-returns-then-number-ne0 invariant-loop decreases-loop
 returns-2 c =
-    let g = c.before.before.before in
-    let l = g.before.loop in
-    let s = g.before.before.before.before.args.catalogue.now in
+    let l = c.loop-at in
+    let s = c.args.catalogue.now in
     answered s l.invariant.whole
-    (bad-here (number_at s) l.place ((length s - l.at) / card_length) ((length s - (l.at + card_length)) / card_length) c.before.check.result (more g) (card-is c.before) c.if2.true
+    (bad-here (number_at s) l.place ((length s - l.at) / card_length) ((length s - (l.at + card_length)) / card_length) c.check-number.result (more c.before.before.before) (card-is c.before) c.if-number-ne0.true
     ∙ sym l.invariant.left)
 
-loop-again : tie.Need-loop-preserved invariant-loop decreases-loop
+loop-again : tie.Need-loop-at-preserved invariant-loop decreases-loop
 loop-again c =
-    let g = c.before.before.before in
-    let l = g.before.loop in
-    let s = g.before.before.before.before.args.catalogue.now in
-    let r = room g in
+    let l = c.loop-at in
+    let s = c.args.catalogue.now in
+    let r = room c.before.before.before in
     record {
       whole = l.invariant.whole;
       steps = omega (arith, l.invariant.steps);
       within = r;
       left =
           l.invariant.left
-          ∙ bad-on (number_at s) l.place ((length s - l.at) / card_length) ((length s - (l.at + card_length)) / card_length) (more g) (sym (card-is c.before) ∙ c.if2.false);
+          ∙ bad-on (number_at s) l.place ((length s - l.at) / card_length) ((length s - (l.at + card_length)) / card_length) (more c.before.before.before) (sym (card-is c.before) ∙ c.if-number-ne0.false);
     }
 
-returns-3 : tie.Need-returns-3 invariant-loop decreases-loop
+returns-3 : tie.Need-returns invariant-loop decreases-loop
 returns-3 c =
-    let l = c.before.loop in
-    let s = c.before.before.before.before.args.catalogue.now in
-    answered s l.invariant.whole (bad-end (number_at s) l.place ((length s - l.at) / card_length) (omega (arith, c.loop-test.false)) ∙ sym l.invariant.left)
+    let l = c.loop-at in
+    let s = c.args.catalogue.now in
+    answered s l.invariant.whole (bad-end (number_at s) l.place ((length s - l.at) / card_length) (omega (arith, c.loop-at-test.false)) ∙ sym l.invariant.left)
 
-pub check-spec : {M : Type 1} → statement M
-check-spec =
+pub check_spec : {M : Type 1} → statement M
+check_spec =
     tie.close
-    (tie.spec invariant-loop decreases-loop (λ c. cut c.before.before.args.catalogue.now c.if1.true) loop-holds (λ c. omega (arith, room c))
+    (tie.spec invariant-loop decreases-loop (λ c. cut c.args.catalogue.now c.if-catalogue-ne0.true) loop-holds (λ c. omega (arith, room c))
     (λ c. search rules) (λ c. search rules) (λ c. omega (arith, room c)) (λ c κs. search rules) returns-2
-    (λ c. omega (arith, room c.before.before.before, c.before.before.before.before.loop.invariant.steps)) (λ c. search rules) loop-again
+    (λ c. omega (arith, room c.before.before.before, c.loop-at.invariant.steps)) (λ c. search rules) loop-again
     returns-3)

@@ -10,44 +10,38 @@ use Rattle.catalogue.proofs.LookupLaws.{number_of, place-of, place-refused, plac
 use Rattle.catalogue.proofs.find.Statement.{statement}
 use Rattle.catalogue.proofs.find.Tie as tie
 
-module _ (c : tie.After-struct-known) where
-  number_is : c.before.scan.result.number ≡ find_number c.before.before.before.before.args.catalogue.now c.before.before.before.before.args.key.now
-  number_is = number_of c.before.before.before.before.args.catalogue.now c.before.before.before.before.args.key.now c.before.scan.ensures
+module _ (c : tie.After-struct_known-1) where
+  number_is : c.scan-found.result.number ≡ find_number c.args.catalogue.now c.args.key.now
+  number_is = number_of c.args.catalogue.now c.args.key.now c.scan-found.ensures
 
-  place_is : c.before.scan.result.place ≡ find_place c.before.before.before.before.args.catalogue.now c.before.before.before.before.args.key.now
-  place_is = place-of c.before.before.before.before.args.catalogue.now c.before.before.before.before.args.key.now c.before.scan.ensures
+  place_is : c.scan-found.result.place ≡ find_place c.args.catalogue.now c.args.key.now
+  place_is = place-of c.args.catalogue.now c.args.key.now c.scan-found.ensures
 
   ptr-is : (p : ℕ × ℕ)
-      → ◌≡◌ {A = ℕ × ℕ} (p.0, c.before.scan.result.place + p.1)
-      (place_of p (find_place c.before.before.before.before.args.catalogue.now c.before.before.before.before.args.key.now))
+      → ◌≡◌ {A = ℕ × ℕ} (p.0, c.scan-found.result.place + p.1)
+      (place_of p (find_place c.args.catalogue.now c.args.key.now))
   ptr-is p = ap (place_of p) place_is
 
-refused-at : (c : tie.Then1) → c.before.before.scan.result.place ≡ length c.before.before.before.before.before.args.catalogue.now
+refused-at : (c : tie.Then-found-ne0) → c.scan-found.result.place ≡ length c.args.catalogue.now
 refused-at c =
-    let a = c.before.before.before.before.before.args in
-    place_is c.before ∙ place-refused a.catalogue.now a.key.now (λ z. c.if1.true (number_is c.before ∙ z))
+    place_is c.before ∙ place-refused c.args.catalogue.now c.args.key.now (λ z. c.if-found-ne0.true (number_is c.before ∙ z))
 
-within : (c : tie.Else1) → c.before.before.scan.result.place + card_length ≤ length c.before.before.before.before.before.args.catalogue.now
+within : (c : tie.Else-found-ne0) → c.scan-found.result.place + card_length ≤ length c.args.catalogue.now
 within c =
-    let a = c.before.before.before.before.before.args in
     let e = place_is c.before in
-    let h = place-within a.catalogue.now a.key.now (sym (number_is c.before) ∙ c.if1.false) in
+    let h = place-within c.args.catalogue.now c.args.key.now (sym (number_is c.before) ∙ c.if-found-ne0.false) in
     omega arith
 
-returns : tie.Need-returns
-returns c =
-    let k = c.before.before in
-    let a = k.before.before.before.before.args in (
-      part_none a.catalogue.now a.key.now k.before.scan.result.place (length a.catalogue.now - k.before.scan.result.place)
-          (λ z. c.before.if1.true (number_is k ∙ z)) (place_is k),
-      ptr-is k a.catalogue.ptr,
-    )
+returns : tie.Need-returns-then-found-ne0
+returns c = (
+  part_none c.args.catalogue.now c.args.key.now c.scan-found.result.place (length c.args.catalogue.now - c.scan-found.result.place)
+      (λ z. c.if-found-ne0.true (number_is c.before.before ∙ z)) (place_is c.before.before),
+  ptr-is c.before.before c.args.catalogue.ref_ptr,
+)
 
-returns-2 : tie.Need-returns-2
+returns-2 : tie.Need-returns
 returns-2 c =
-    let k = c.before.before in
-    let a = k.before.before.before.before.args in
-    (part_of a.catalogue.now a.key.now k.before.scan.result.place (sym (number_is k) ∙ c.before.if1.false) (place_is k), ptr-is k a.catalogue.ref_ptr)
+    (part_of c.args.catalogue.now c.args.key.now c.scan-found.result.place (sym (number_is c.before.before) ∙ c.if-found-ne0.false) (place_is c.before.before), ptr-is c.before.before c.args.catalogue.ref_ptr)
 
 pub find_spec : {M : Type 1} → statement M
 find_spec =

@@ -4,5 +4,5 @@ use Rattle.catalogue.proofs.LookupLaws.{number_of}
 use Rattle.catalogue.proofs.find_number.Statement.{statement}
 use Rattle.catalogue.proofs.find_number.Tie as tie
 
-pub find-number-spec : {M : Type 1} → statement M
-find-number-spec = tie.close (tie.spec (λ c κs. search rules) (λ c. number_of _ _ c.scan.ensures))
+pub find_number_spec : {M : Type 1} → statement M
+find_number_spec = tie.close (tie.spec (λ c κs. search rules) (λ c. number_of _ _ c.scan-found.ensures))

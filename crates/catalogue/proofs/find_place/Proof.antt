@@ -4,5 +4,5 @@ use Rattle.catalogue.proofs.LookupLaws.{place-of}
 use Rattle.catalogue.proofs.find_place.Statement.{statement}
 use Rattle.catalogue.proofs.find_place.Tie as tie
 
-pub find-place-spec : {M : Type 1} → statement M
-find-place-spec = tie.close (tie.spec (λ c κs. search rules) (λ c. place-of _ _ c.scan.ensures))
+pub find_place_spec : {M : Type 1} → statement M
+find_place_spec = tie.close (tie.spec (λ c κs. search rules) (λ c. place-of _ _ c.scan-found.ensures))

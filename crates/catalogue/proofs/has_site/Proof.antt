@@ -11,10 +11,10 @@ use Rattle.catalogue.specs.Lookup.{same_from, has_site}
 use Rattle.catalogue.proofs.has_site.Statement.{statement}
 use Rattle.catalogue.proofs.has_site.Tie as tie
 
-abbrev invariant-loop : tie.invariant-loop
+abbrev invariant-loop : tie.invariant-loop-i
 invariant-loop s key at i₀ i = (i ≤ 9) × (has_site s key at ≡ same_from s key at i (9 - i))
 
-abbrev decreases-loop : tie.decreases-loop
+abbrev decreases-loop : tie.decreases-loop-i
 decreases-loop s key at i₀ i = 9 - i
 
 whole : (s key : List ℕ) (at : ℕ) → has_site s key at ≡ same_from s key at 0 9
@@ -37,25 +37,20 @@ none : (s key : List ℕ) (at i : ℕ) → 9 ≤ i → same_from s key at i (9 -
 unfolding same_from
 none s key at i h = let e : 9 - i ≡ 0 = omega arith in rw e
 
-returns : tie.Need-returns invariant-loop decreases-loop
+returns : tie.Need-returns-then-catalogue-at invariant-loop decreases-loop
 returns c =
-    let l = c.before.before.before.before in
-    let a = l.before.args in
-    sym (l.loop.invariant.1 ∙ unlike a.catalogue.now a.key.now a.at l.loop.i (omega arith) c.if1.true)
+    sym (c.loop-i.invariant.1 ∙ unlike c.args.catalogue.now c.args.key.now c.args.at c.loop-i.i (omega arith) c.if-catalogue-at.true)
 
-loop-again : tie.Need-loop-preserved invariant-loop decreases-loop
+loop-again : tie.Need-loop-i-preserved invariant-loop decreases-loop
 loop-again c =
-    let l = c.before.before.before.before in
-    let a = l.before.args in
-    (omega arith, l.loop.invariant.1 ∙ like a.catalogue.now a.key.now a.at l.loop.i (omega arith) c.if1.false)
+    (omega arith, c.loop-i.invariant.1 ∙ like c.args.catalogue.now c.args.key.now c.args.at c.loop-i.i (omega arith) c.if-catalogue-at.false)
 
-returns-2 : tie.Need-returns-2 invariant-loop decreases-loop
+returns-2 : tie.Need-returns invariant-loop decreases-loop
 returns-2 c =
-    let a = c.before.before.args in
-    sym (c.before.loop.invariant.1 ∙ none a.catalogue.now a.key.now a.at c.before.loop.i (omega arith))
+    sym (c.loop-i.invariant.1 ∙ none c.args.catalogue.now c.args.key.now c.args.at c.loop-i.i (omega arith))
 
-pub has-site-spec : {M : Type 1} → statement M
-has-site-spec =
+pub has_site_spec : {M : Type 1} → statement M
+has_site_spec =
     tie.close
     (tie.spec invariant-loop decreases-loop (λ c. (omega arith, whole c.args.catalogue.now c.args.key.now c.args.at)) (λ c. omega arith)
     (λ c. omega arith) (λ c. omega arith) returns (λ c. omega arith) (λ c. omega arith) loop-again returns-2)

@@ -22,55 +22,48 @@ pub record Passed (s key : List ℕ) (at : ℕ) : Type 0 where
   pub within : at ≤ length s
   pub left : first_place s key ≡ first_from s key at ((length s - at) / card_length)
 
-abbrev invariant-loop : tie.invariant-loop
+abbrev invariant-loop : tie.invariant-loop-at
 invariant-loop s key at₀ at = Passed s key at
 
-abbrev decreases-loop : tie.decreases-loop
+abbrev decreases-loop : tie.decreases-loop-at
 decreases-loop s key at₀ at = length s - at
 
-shape : (c : tie.Else1 invariant-loop decreases-loop) → site_shape c.before.before.before.before.args.key.now ≡ true
-shape c = sym c.before.is-site.ensures ∙ not-false c.before.is-site.result c.if1.false
+shape : (c : tie.Else-not-is_site invariant-loop decreases-loop) → site_shape c.args.key.now ≡ true
+shape c = sym c.is_site.ensures ∙ c.if-not-is_site.false
 
-returns : tie.Need-returns invariant-loop decreases-loop
+returns : tie.Need-returns-then-not-is_site invariant-loop decreases-loop
 returns c =
-    let a = c.before.before.before.before.args in
-    found-2 a.catalogue.now a.key.now (sym c.before.is-site.ensures ∙ not-true c.before.is-site.result c.if1.true)
+    found-2 c.args.catalogue.now c.args.key.now (sym c.is_site.ensures ∙ c.if-not-is_site.true)
 
-loop-holds : tie.Need-loop-init invariant-loop decreases-loop
+loop-holds : tie.Need-loop-at-init invariant-loop decreases-loop
 loop-holds c =
-    let a = c.before.before.before.before.before.args in
     record {
       shape = shape c.before;
-      whole = c.if2.false;
+      whole = c.if-catalogue-ne0.false;
       steps = refl;
       within = omega arith;
-      left = first-whole a.catalogue.now a.key.now;
+      left = first-whole c.args.catalogue.now c.args.key.now;
     }
 
-has-site-requires : tie.Need-has-site-requires invariant-loop decreases-loop
+has-site-requires : tie.Need-has_site-requires invariant-loop decreases-loop
 has-site-requires c κs =
-    let a = c.before.before.before.before.before.before.before.args in
-    let i = c.before.loop.invariant in
-    (site-nine a.key.now i.shape, omega (arith, i.whole, i.steps, i.within))
+    let i = c.loop-at.invariant in
+    (site-nine c.args.key.now i.shape, omega (arith, i.whole, i.steps, i.within))
 
-returns-3 : tie.Need-returns-3 invariant-loop decreases-loop
+returns-3 : tie.Need-returns-then-has_site invariant-loop decreases-loop
 returns-3 c =
-    let l = c.before.before.before in
-    let a = l.before.before.before.before.before.before.args in
-    let i = l.loop.invariant in
-    found-0 a.catalogue.now a.key.now l.loop.at i.shape i.whole
+    let i = c.loop-at.invariant in
+    found-0 c.args.catalogue.now c.args.key.now c.loop-at.at i.shape i.whole
     (i.left
-    ∙ first-here a.catalogue.now a.key.now l.loop.at ((length a.catalogue.now - l.loop.at) / card_length)
-    ((length a.catalogue.now - (l.loop.at + card_length)) / card_length) (omega (arith, i.whole, i.steps, i.within, c.before.before.loop-test.true))
-    (sym c.before.has-site.ensures ∙ c.if3.true))
-    c.before.before.loop-test.true
+    ∙ first-here c.args.catalogue.now c.args.key.now c.loop-at.at ((length c.args.catalogue.now - c.loop-at.at) / card_length)
+    ((length c.args.catalogue.now - (c.loop-at.at + card_length)) / card_length) (omega (arith, i.whole, i.steps, i.within, c.loop-at-test.true))
+    (sym c.has_site.ensures ∙ c.if-has_site.true))
+    c.loop-at-test.true
 
-loop-again : tie.Need-loop-preserved invariant-loop decreases-loop
+loop-again : tie.Need-loop-at-preserved invariant-loop decreases-loop
 loop-again c =
-    let l = c.before.before.before in
-    let a = l.before.before.before.before.before.before.args in
-    let i = l.loop.invariant in
-    let h = c.before.before.loop-test.true in
+    let i = c.loop-at.invariant in
+    let h = c.loop-at-test.true in
     record {
       shape = i.shape;
       whole = i.whole;
@@ -78,23 +71,23 @@ loop-again c =
       within = omega (arith, i.whole, i.steps, i.within, h);
       left =
           i.left
-          ∙ first-later a.catalogue.now a.key.now l.loop.at ((length a.catalogue.now - l.loop.at) / card_length)
-          ((length a.catalogue.now - (l.loop.at + card_length)) / card_length) (omega (arith, i.whole, i.steps, i.within, h))
-          (sym c.before.has-site.ensures ∙ c.if3.false);
+          ∙ first-later c.args.catalogue.now c.args.key.now c.loop-at.at ((length c.args.catalogue.now - c.loop-at.at) / card_length)
+          ((length c.args.catalogue.now - (c.loop-at.at + card_length)) / card_length) (omega (arith, i.whole, i.steps, i.within, h))
+          (sym c.has_site.ensures ∙ c.if-has_site.false);
     }
 
-returns-4 : tie.Need-returns-4 invariant-loop decreases-loop
+returns-4 : tie.Need-returns invariant-loop decreases-loop
 returns-4 c =
     let l = c.before in
-    let a = l.before.before.before.before.before.before.args in
-    let i = l.loop.invariant in
-    let e : first_place a.catalogue.now a.key.now ≡ l.loop.at =
-    i.left ∙ first-none a.catalogue.now a.key.now l.loop.at ((length a.catalogue.now - l.loop.at) / card_length) (omega (arith, c.loop-test.false)) in
-    found-15 a.catalogue.now a.key.now i.shape i.whole (omega (arith, e, c.loop-test.false))
+    let a = l.args in
+    let i = l.loop-at.invariant in
+    let e : first_place a.catalogue.now a.key.now ≡ l.loop-at.at =
+    i.left ∙ first-none a.catalogue.now a.key.now l.loop-at.at ((length a.catalogue.now - l.loop-at.at) / card_length) (omega (arith, c.loop-at-test.false)) in
+    found-15 a.catalogue.now a.key.now i.shape i.whole (omega (arith, e, c.loop-at-test.false))
 
-pub scan-spec : {M : Type 1} → statement M
-scan-spec =
+pub scan_spec : {M : Type 1} → statement M
+scan_spec =
     tie.close
     (tie.spec invariant-loop decreases-loop (λ c κs. search rules) returns
-    (λ c. let a = c.before.before.before.before.before.args in found-14 a.catalogue.now a.key.now (shape c.before) c.if2.true)
+    (λ c. found-14 c.args.catalogue.now c.args.key.now (shape c.before) c.if-catalogue-ne0.true)
     loop-holds has-site-requires returns-3 (λ c. omega arith) (λ c. omega arith) loop-again returns-4)

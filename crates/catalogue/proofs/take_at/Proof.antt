@@ -29,12 +29,12 @@ whole_is s at a e h k =
     let n : at + card_length - at ≡ card_length = omega arith in
     ap (λ (b : Answer). taken_with b false (at + card_length)) (e ∙ ap (λ (m : ℕ). read_card (take m (drop at s))) n) ∙ sym (taken-whole s at h k)
 
-pub take-at-spec : {M : Type 1} → statement M
-take-at-spec =
+pub take_at_spec : {M : Type 1} → statement M
+take_at_spec =
     tie.close
     (tie.spec (λ c κs. search rules) (λ c κs. search rules)
-    (λ c. c.step_of_lem.ensures ∙ done-is _ _ _ c.before.refused.ensures c.before.before.if1.true)
+    (λ c. c.step_of.ensures ∙ done-is _ _ _ c.refused.ensures c.if-s-at.true)
     (λ c. search rules) (λ c κs. search rules) (λ c κs. search rules)
-    (λ c. let r = c.before in c.step-of2.ensures ∙ short-is _ _ _ r.refused2.ensures r.before.before.if1.false r.before.if2.true)
+    (λ c. c.step_of-then-s-at-lt-CARD_LENGTH.ensures ∙ short-is _ _ _ c.refused-then-s-at-lt-CARD_LENGTH.ensures c.if-s-at.false c.if-s-at-lt-CARD_LENGTH.true)
     (λ c. search rules) (λ c. search rules) (λ c. search rules) (λ c. search rules) (λ c κs. search rules) (λ c κs. search rules)
-    (λ c. let e = c.before.before.before in c.step-of3.ensures ∙ whole_is _ _ _ c.before.read.ensures e.before.if1.false e.if2.false))
+    (λ c. c.step_of-2.ensures ∙ whole_is _ _ _ c.read.ensures c.if-s-at.false c.if-s-at-lt-CARD_LENGTH.false))
