@@ -13,27 +13,23 @@ use Rattle.listing.proofs.LineLaws.{refused-text, refused-most}
 use Rattle.listing.proofs.put_refused.Statement.{statement}
 use Rattle.listing.proofs.put_refused.Tie as tie
 
-whole : (c : tie.After-put-bytes2) → let a = c.before.before.before.before.before.before.before.before.before.before.before.before.before.args in Put a.out.now 0 (refused_line a.number) c.put-bytes2.new.0 c.put-bytes2.result
+whole : (c : tie.After-put_bytes) → Put c.args.out.now 0 (refused_line c.args.number) c.put_bytes.new.out c.put_bytes.result
 unfolding refused_word
 whole c =
-    let n = c.before.before.before.before.before in
-    let w = n.before.before.before.before in
-    let a = w.before.before.before.before.args in
-    put_as (refused-text a.number)
+    put_as (refused-text c.args.number)
     (put-more (10 ∷ [])
-    (put_same spaced (to_z_pos w64 {n = a.number} (omega arith))
-    (put-more refused_word (put-none a.out.now 0 (omega arith) (omega arith)) w.put-bytes.ensures.0 w.put-bytes.ensures.1)
-    n.put_next.ensures.0 n.put_next.ensures.1)
-    c.put-bytes2.ensures.0 c.put-bytes2.ensures.1)
+    (put_same spaced (to_z_pos w64 {n = c.args.number} (omega arith))
+    (put-more refused_word (put-none c.args.out.now 0 (omega arith) (omega arith)) c.put_bytes-word.ensures.0 c.put_bytes-word.ensures.1)
+    c.put_next-end.ensures.0 c.put_next-end.ensures.1)
+    c.put_bytes.ensures.0 c.put_bytes.ensures.1)
 
 returns : tie.Need-returns
 returns c =
     let p = whole c.before.before in
-    let n = c.before.before.before.before.before.before.before.before.before.before.before.before.before.before.before.args.number in
+    let n = c.args.number in
     (p.place ∙ after_small 0 (length (refused_line n)) (omega (arith, refused-most n)) ∙ omega arith, p.holds)
 
-pub put-refused-spec : {M : Type 1} → statement M
-put-refused-spec =
+pub put_refused_spec : {M : Type 1} → statement M
+put_refused_spec =
     tie.close
-    (tie.spec (λ c. search rules) (λ c κs. search rules) (λ c. search rules) (λ c κs. search rules) (λ c. search rules) (λ c κs. search rules)
-    (λ c. search rules) returns)
+    (tie.spec (λ c. search rules) (λ c. search rules) (λ c. search rules) (λ c. search rules) (λ c. search rules) returns)

@@ -3,9 +3,9 @@ use Rattle.netvjesha.proofs.FaceLaws.{labelled-first, labelled-second, labelled-
 use Rattle.netvjesha.proofs.labelled.Statement.{statement}
 use Rattle.netvjesha.proofs.labelled.Tie as tie
 
-pub labelled-spec : {M : Type 1} → statement M
-labelled-spec =
+pub labelled_spec : {M : Type 1} → statement M
+labelled_spec =
     tie.close
-    (tie.spec (λ c. labelled-first _ _ _ _ _ c.if1.true) (λ c. labelled-second _ _ _ _ _ c.before.if1.false c.if2.true)
-    (λ c. labelled-sun _ _ _ _ _ c.before.before.if1.false c.before.if2.false c.if3.true)
-    (λ c. labelled-moon _ _ _ _ _ c.before.before.if1.false c.before.if2.false c.if3.false))
+    (tie.spec (λ c. labelled-first _ _ _ _ _ c.if-la-gt1.true) (λ c. labelled-second _ _ _ _ _ c.if-la-gt1.false c.if-lb-gt1.true)
+    (λ c. labelled-sun _ _ _ _ _ c.if-la-gt1.false c.if-lb-gt1.false c.if-label-eq1.true)
+    (λ c. labelled-moon _ _ _ _ _ c.if-la-gt1.false c.if-lb-gt1.false c.if-label-eq1.false))

@@ -10,11 +10,11 @@ use Rattle.netvjesha.proofs.nv_check_catalogue.Tie as tie
 
 packed-requires : tie.Need-packed-requires
 packed-requires c κs =
-    subst⁻¹ (λ (x : Checked). x.number < 256) c.check.ensures (catalogue-small c.before.before.args.records.now)
+    subst⁻¹ (λ (x : Checked). x.number < 256) c.check-checked.ensures (catalogue-small c.args.records.now)
 
 returns : tie.Need-returns
 unfolding checked_catalogue
-returns c = c.packed.ensures ∙ ap (λ (x : Checked). packed x.number x.place) c.before.check.ensures
+returns c = c.packed.ensures ∙ ap (λ (x : Checked). packed x.number x.place) c.check-checked.ensures
 
-pub nv-check-catalogue-spec : {M : Type 1} → statement M
-nv-check-catalogue-spec = tie.close (tie.spec (λ c κs. search rules) packed-requires returns)
+pub nv_check_catalogue_spec : {M : Type 1} → statement M
+nv_check_catalogue_spec = tie.close (tie.spec (λ c κs. search rules) packed-requires returns)

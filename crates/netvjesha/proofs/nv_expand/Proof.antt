@@ -4,8 +4,8 @@ use Rattle.netvjesha.proofs.FaceLaws.{expand-called}
 use Rattle.netvjesha.proofs.nv_expand.Statement.{statement}
 use Rattle.netvjesha.proofs.nv_expand.Tie as tie
 
-pub nv-expand-spec : {M : Type 1} → statement M
-nv-expand-spec =
+pub nv_expand_spec : {M : Type 1} → statement M
+nv_expand_spec =
     tie.close
     (tie.spec (λ c κs. search rules) (λ c κs. search rules) (λ c. search rules)
-    (λ c. let p = c.before.before in expand-called _ _ _ _ _ p.before.before.expand.ensures p.put.ensures))
+    (λ c. expand-called _ _ _ _ _ c.expand.ensures c.put.ensures))

@@ -7,8 +7,8 @@ use Rattle.records.proofs.BytesLaws.{same-call}
 use Rattle.netvjesha.proofs.nv_move.Statement.{statement}
 use Rattle.netvjesha.proofs.nv_move.Tie as tie
 
-pub nv-move-spec : {M : Type 1} → statement M
-nv-move-spec =
+pub nv_move_spec : {M : Type 1} → statement M
+nv_move_spec =
     tie.close
     (tie.spec (λ c κs. search rules) (λ c. search rules)
-    (λ c. let r = c.before.before in same-call _ _ _ _ _ _ (ap move (to_z-of_z r.before.before.before.before.ranges.d)) r.move-by.ensures))
+    (λ c. same-call _ _ _ _ _ _ (ap move (to_z-of_z c.ranges.d)) c.move_by.ensures))

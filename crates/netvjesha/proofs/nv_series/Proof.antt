@@ -15,27 +15,22 @@ use Rattle.netvjesha.proofs.nv_series.Statement.{statement}
 use Rattle.netvjesha.proofs.nv_series.Tie as tie
 
 -- the mark comes back as it went in
-mark-is : (s : tie.After-series) → vec (rd s.before.before.before.args.x) (rd s.before.before.before.args.y) (rd s.before.before.before.args.z) ≡ vec s.before.before.before.args.x s.before.before.before.args.y s.before.before.before.args.z
-mark-is s = let f = s.before.before.before.ranges in back f.x f.y f.z
+mark-is : (s : tie.After-series-done) → vec (rd s.args.x) (rd s.args.y) (rd s.args.z) ≡ vec s.args.x s.args.y s.args.z
+mark-is s = let f = s.ranges in back f.x f.y f.z
 
-answer-is : (s : tie.After-series) → s.series.result ≡ series_answer (vec s.before.before.before.args.x s.before.before.before.args.y s.before.before.before.args.z) s.before.before.before.args.bodies.now (length s.before.before.before.args.out.now)
+answer-is : (s : tie.After-series-done) → s.series-done.result ≡ series_answer (vec s.args.x s.args.y s.args.z) s.args.bodies.now (length s.args.out.now)
 answer-is s =
-    let a = s.before.before.before.args in
-    s.series.ensures.0 ∙ ap (λ (m : Vec3). series_answer m a.bodies.now (length a.out.now)) (mark-is s)
+    s.series-done.ensures.0 ∙ ap (λ (m : Vec3). series_answer m s.args.bodies.now (length s.args.out.now)) (mark-is s)
 
 packed-requires : tie.Need-packed-requires
 packed-requires c κs =
-    let s = c.before in
-    let a = s.before.before.before.args in
-    subst⁻¹ (λ (r : Rows). r.number < 256) (answer-is s) (series-small (vec a.x a.y a.z) a.bodies.now (length a.out.now))
+    subst⁻¹ (λ (r : Rows). r.number < 256) (answer-is c.before) (series-small (vec c.args.x c.args.y c.args.z) c.args.bodies.now (length c.args.out.now))
 
 returns : tie.Need-returns
-returns c =
-    let s = c.before.before in
-    let a = s.before.before.before.args in (
-      c.packed.ensures ∙ ap packed_rows (answer-is s),
-      s.series.ensures.1 ∙ ap (λ (m : Vec3). series_numbers m a.bodies.now a.out.now) (mark-is s),
-    )
+returns c = (
+  c.packed.ensures ∙ ap packed_rows (answer-is c.before.before),
+  c.series-done.ensures.1 ∙ ap (λ (m : Vec3). series_numbers m c.args.bodies.now c.args.out.now) (mark-is c.before.before),
+)
 
-pub nv-series-spec : {M : Type 1} → statement M
-nv-series-spec = tie.close (tie.spec (λ c κs. search rules) packed-requires (λ c. search rules) returns)
+pub nv_series_spec : {M : Type 1} → statement M
+nv_series_spec = tie.close (tie.spec (λ c κs. search rules) packed-requires (λ c. search rules) returns)

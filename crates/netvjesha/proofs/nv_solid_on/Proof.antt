@@ -7,9 +7,8 @@ use Rattle.netvjesha.proofs.FaceLaws.{solid-labelled}
 use Rattle.netvjesha.proofs.nv_solid_on.Statement.{statement}
 use Rattle.netvjesha.proofs.nv_solid_on.Tie as tie
 
-pub nv-solid-on-spec : {M : Type 1} → statement M
-nv-solid-on-spec =
+pub nv_solid_on_spec : {M : Type 1} → statement M
+nv_solid_on_spec =
     tie.close
     (tie.spec (λ c κs. search rules) (λ c κs. search rules) (λ c κs. search rules) (λ c. search rules)
-    (λ c. let r = c.before.before in let b = r.before.before in
-    same-call _ _ _ _ _ _ (ap₂ solid_on b.before.labelled.ensures b.labelled2.ensures ∙ solid-labelled _ _ _ _) r.solid-on.ensures))
+    (λ c. same-call _ _ _ _ _ _ (ap₂ solid_on c.labelled-first.ensures c.labelled-second.ensures ∙ solid-labelled _ _ _ _) c.solid_on.ensures))

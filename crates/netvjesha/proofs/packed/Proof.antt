@@ -16,7 +16,7 @@ returns : tie.Need-returns
 unfolding packed
 returns c = refl
 
-pub packed-spec : {M : Type 1} → statement M
-packed-spec =
+pub packed_spec : {M : Type 1} → statement M
+packed_spec =
     tie.close
     (tie.spec (λ c. search rules) (λ c. record { fits = sum _ _ c.requires (mod-lt c.args.place (lit< tt)) }) returns)
