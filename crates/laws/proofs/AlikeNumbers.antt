@@ -17,7 +17,7 @@ use Rattle.card.proofs.CallLaws.{own-number}
 use Rattle.laws.specs.Lists.{numbers}
 use Rattle.laws.specs.TwoCards.{Alike, past_limit, InLimits}
 use Rattle.laws.proofs.StaysValid.{stays-valid}
-use Rattle.laws.proofs.TwoCardLaws.{step-alike}
+use Rattle.laws.proofs.TwoCardLaws.{step-agreed}
 
 -- ---- a table without its rows of 7 and 8
 
@@ -84,4 +84,4 @@ alike-numbers c c' [] v v' s h h' = refl
 alike-numbers c c' (k ∷ ks) v v' s h h' =
     let e = alike-number c c' k v v' s h.0 h'.0 in
     ap₂ ◌∷◌ e
-    (alike-numbers (step c k).card (step c' k).card ks (stays-valid c k v) (stays-valid c' k v') (step-alike c c' k s (ap (λ (n : ℕ). eqb n 0) e)) h.1 h'.1)
+    (alike-numbers (step c k).card (step c' k).card ks (stays-valid c k v) (stays-valid c' k v') (step-agreed c c' k s (ap (λ (n : ℕ). eqb n 0) e)) h.1 h'.1)

@@ -1,6 +1,6 @@
 -- The field bound over bytes: a record exported, expanded, and both put through one list of calls on bytes that both accept.
 use mathlib.Core.Path.{◌≡◌, refl, sym, ◌∙◌, ap, subst⁻¹}
-use mathlib.Core.List.{List}
+use mathlib.Core.List.{List, [], ◌∷◌}
 use Prim.Native.Nat.{ℕ}
 use lib.ListN.{length}
 use Rattle.refusal.specs.Outputs.{before}
@@ -9,17 +9,32 @@ use Rattle.octets.proofs.OctetLaws.{Bytes}
 use Rattle.mark.specs.Ranges.{Within}
 use Rattle.mark.specs.Mark.{minus}
 use Rattle.card.specs.declared.Card.{Card}
+use Rattle.card.specs.Calls.{step}
 use Rattle.codec.specs.Codec.{card_length, encode, decode, read_number}
 use Rattle.field.specs.declared.record.Opened.{Opened}
 use Rattle.field.specs.Field.{field_length, field_of, export_number, field_number, opened_of, expanded_of}
 use Rattle.field.proofs.FieldLaws.{opened-field, number-field, export-accepted}
 use Rattle.netvjesha.specs.Face.{exported_number, exported_out, expanded_number, expanded_out}
-use Rattle.laws.specs.Lists.{verdicts, net}
+use Rattle.laws.specs.Lists.{verdicts, numbers, net, Accepted}
 use Rattle.laws.specs.ByteLists.{Lent, Roomy, calls_of, run_bytes, numbers_bytes, each}
 use Rattle.laws.specs.TwoCards.{between, field_bound}
 use Rattle.laws.specs.TwoRecords.{Together}
 use Rattle.laws.proofs.FieldEdition.{edition, edition-is, edition-valid, edition-close}
 use Rattle.laws.proofs.ByteTies.{Follows, read-follows, encoded-follows, agree, of-both}
+
+-- a list whose numbers are all 0 is accepted in full
+accepted-all : (c : Card) (ls : List Lent) → numbers c (calls_of ls) ≡ each 0 ls → Accepted c (calls_of ls)
+unfolding numbers calls_of each Accepted
+accepted-all c [] e = tt
+accepted-all c (l ∷ ls) e = (ap (head 0) e, accepted-all (step c l.call).card ls (ap tail e))
+  where
+    head : ℕ → List ℕ → ℕ
+    head d [] = d
+    head d (n ∷ ns) = n
+
+    tail : List ℕ → List ℕ
+    tail [] = []
+    tail (n ∷ ns) = ns
 
 -- what a caller of C has after export and expand, each accepted: the bytes of the edition
 module _ (s : List ℕ) (field out : List ℕ) (e : exported_number (length field) s ≡ 0) (o : length out ≡ card_length) where

@@ -10,9 +10,9 @@ use Rattle.codec.specs.Codec.{encode, decode, read_number}
 use Rattle.laws.specs.Lists.{run, numbers, verdicts, net, Still}
 use Rattle.laws.specs.ByteLists.{Lent, Roomy, calls_of, run_bytes, numbers_bytes, each}
 use Rattle.laws.specs.TwoCards.{Alike, Agree, between, parting}
-use Rattle.laws.specs.TwoRecords.{Together}
+use Rattle.laws.specs.TwoRecords.{Together, each_of}
 use Rattle.laws.proofs.ByteLists.{byte-numbers, byte-card, numbers-encoded, encoded-card}
-use Rattle.laws.proofs.TwoCardLaws.{run-alike, difference, velocity-difference, difference-still}
+use Rattle.laws.proofs.TwoCardLaws.{run-agreed, difference-agreed, velocity-agreed, difference-still}
 
 -- ---- a record that does as its card does, through every list
 
@@ -59,7 +59,7 @@ module _
       ≡ plus (between (decode s) (decode s')) (scaled (net (decode s) (calls_of ls)) (parting (decode s) (decode s')))
   byte-tie =
       of-records (λ (d d' : Card). between d d' ≡ plus (between (decode s) (decode s')) (scaled (net (decode s) (calls_of ls)) (parting (decode s) (decode s'))))
-      (difference (decode s) (decode s') (calls_of ls) a same)
+      (difference-agreed (decode s) (decode s') (calls_of ls) a same)
 
   pub byte-still : Still (calls_of ls) → between (decode (run_bytes s ls)) (decode (run_bytes s' ls')) ≡ between (decode s) (decode s')
   byte-still h =
@@ -67,15 +67,15 @@ module _
 
   pub byte-velocity : parting (decode (run_bytes s ls)) (decode (run_bytes s' ls')) ≡ parting (decode s) (decode s')
   byte-velocity =
-      of-records (λ (d d' : Card). parting d d' ≡ parting (decode s) (decode s')) (velocity-difference (decode s) (decode s') (calls_of ls) a same)
+      of-records (λ (d d' : Card). parting d d' ≡ parting (decode s) (decode s')) (velocity-agreed (decode s) (decode s') (calls_of ls) a same)
 
   pub byte-alike : Alike (decode (run_bytes s ls)) (decode (run_bytes s' ls'))
-  byte-alike = of-records Alike (run-alike (decode s) (decode s') (calls_of ls) a same)
+  byte-alike = of-records Alike (run-agreed (decode s) (decode s') (calls_of ls) a same)
 
 -- ---- accepted in full by both is one case
 
-each-call : (n : ℕ) (ls : List Lent) → each n (calls_of ls) ≡ each n ls
-unfolding each calls_of
+each-call : (n : ℕ) (ls : List Lent) → each_of n (calls_of ls) ≡ each n ls
+unfolding each each_of calls_of
 each-call n [] = refl
 each-call n (l ∷ ls) = ap (λ (ns : List ℕ). n ∷ ns) (each-call n ls)
 
@@ -88,4 +88,4 @@ pub accepted-together :
     → numbers_bytes s' ls' ≡ each 0 ls'
     → Together s s' ls ls'
 accepted-together s s' ls ls' h h' k a a' =
-    record { roomy = h; roomy' = h'; calls = k; outcomes = ap verdicts (a ∙ sym (each-call 0 ls) ∙ ap (each 0) k ∙ each-call 0 ls' ∙ sym a') }
+    record { roomy = h; roomy' = h'; calls = k; outcomes = ap verdicts (a ∙ sym (each-call 0 ls) ∙ ap (each_of 0) k ∙ each-call 0 ls' ∙ sym a') }

@@ -22,7 +22,7 @@ use Rattle.field.proofs.ReturnLaws.{Close, Returned, returned-call}
 use Rattle.laws.specs.Lists.{run, net, Accepted}
 use Rattle.laws.specs.TwoCards.{Alike, Agree, between, half_unit, half_speed, field_bound}
 use Rattle.laws.proofs.TwoCardLaws.{accepted-same}
-use Rattle.laws.proofs.FieldBound.{stays-close, alike-unstored}
+use Rattle.laws.proofs.FieldBound.{stays-close-agreed, alike-unstored}
 
 -- the card that comes back: exported into any lent buffer, and expanded
 abbrev pub edition : Card → List ℕ → Card
@@ -66,7 +66,7 @@ pub edition-close :
     → Agree c (edition c out) ks
     → Within (field_bound (net c ks)) (between (run c ks) (run (edition c out) ks))
 edition-close c out ks h e =
-    stays-close half_unit half_speed c (edition c out) ks (edition-alike c out h) e
+    stays-close-agreed half_unit half_speed c (edition c out) ks (edition-alike c out h) e
     (within_of half_unit c.position (edition c out).position (back c out h).position)
     (within_of half_speed c.velocity (edition c out).velocity (back c out h).velocity)
 

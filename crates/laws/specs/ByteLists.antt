@@ -45,6 +45,6 @@ buffers_of [] = []
 buffers_of (l ∷ ls) = l.out ∷ buffers_of ls
 
 -- the same number for each call
-unfoldable pub each : {A : Type 0} → ℕ → List A → List ℕ
+unfoldable pub each : ℕ → List Lent → List ℕ
 each n [] = []
-each n (k ∷ ks) = n ∷ each n ks
+each n (l ∷ ls) = n ∷ each n ls
