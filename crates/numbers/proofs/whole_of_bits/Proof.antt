@@ -84,8 +84,8 @@ returns-6 c =
 pub whole_of_bits_spec : {M : Type 1} → statement M
 whole_of_bits_spec =
     tie.close
-    (tie.spec (λ c. none_at_top c.before.args.b c.if-exponent-eq2047.true)
-    (λ c. far-there c.before.before.args.b c.if-exponent-gt1053.true (below_top c.before.before.args.b c.before.if-exponent-eq2047.false))
+    (tie.spec (λ c. none_at_top c.before.args.b (omega arith))
+    (λ c. far-there c.before.before.args.b (omega arith) (below_top c.args.b (λ e. omega arith)))
     (λ c. zero-there c.before.before.before.args.b c.if-exponent-lt1022.true) (λ c. search rules) (λ c. search rules) (λ c. search rules)
     (λ c κs. search rules) returns-4 (λ c. search rules) (λ c. search rules)
     (λ c. fit (vneg (value c.before.before.nearest-n.result c.before.if-n-gt1073741824.false)) (lit< tt)) returns-5 returns-6)

@@ -1,4 +1,5 @@
 -- `octets::double_at` meets its contract: a pattern above that of the infinities is the one NaN, as 0/0 is. Assumes nothing.
+use native.Mathlib.Omega.{arith}
 use mathlib.Core.Path.{◌≡◌, refl, sym, ap, ◌∙◌, subst}
 use mathlib.Core.Bool.{Bool, true, not}
 use Prim.Native.Nat.{ℕ, ◌%◌, ◌≤◌, ◌<◌}
@@ -35,5 +36,5 @@ told c = ap (of_bits binary64) c.unsigned_at-bits.ensures
 pub double_at_spec : {M : Type 1} → statement M
 double_at_spec =
     tie.close
-    (tie.spec (λ c κs. search rules) (λ c. at-nan c.before.unsigned_at-bits.result c.if-bits-gt9218868437227405312.true ∙ told c.before)
-    (λ c. off-nan c.before.unsigned_at-bits.result c.if-bits-gt9218868437227405312.false) (λ c. told c.before))
+    (tie.spec (λ c κs. search rules) (λ c. at-nan c.before.unsigned_at-bits.result (omega arith) ∙ told c.before)
+    (λ c. off-nan c.before.unsigned_at-bits.result (omega arith)) (λ c. told c.before))
