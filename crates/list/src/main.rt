@@ -8,8 +8,9 @@ ghost use Rattle.listing.specs.Lines as N;
 ghost use Rattle.list.specs.Batch as B;
 
 use codec::CARD_LENGTH;
-use libc::{STDIN_FILENO, STDOUT_FILENO};
 use listing::LINE_MOST;
+use std::io;
+use std::io::{Read, Write};
 
 // So many parts a turn, the bytes that they have at most, and the bytes of their lines.
 const PARTS: usize = 512;
@@ -18,24 +19,29 @@ const INPUT: usize = PARTS * CARD_LENGTH;
 
 const OUTPUT: usize = PARTS * LINE_MOST;
 
-// The loop has to end, and nothing says that the input does: it counts down from a number that no run uses up.
-fn main() {
-    let mut turns = u64::MAX;
-    while turns > 0 && list_some() {
-        turns -= 1;
+// The loop has to end, and nothing says that the input does: it counts up to a number that no run reaches.
+fn main(rt: HostRuntime) -> io::Result<()> {
+    let mut input = rt.stdin();
+    let mut output = rt.stdout();
+    for _ in 0..u64::MAX {
+        if !list_some(&mut input, &mut output)? {
+            break;
+        }
     }
+    Ok(())
 }
 
-// Reads up to PARTS parts and writes their listing; false where nothing was left or nothing more can be written.
-fn list_some() -> bool {
+// Reads up to PARTS parts and writes their listing; false where nothing was left. A read or a write that fails is handed on.
+fn list_some<R: Read, W: Write>(input: &mut R, output: &mut W) -> io::Result<bool> {
     let mut bytes = [0u8; INPUT];
     let mut text = [0u8; OUTPUT];
-    let got = io::read_full(STDIN_FILENO, &mut bytes);
+    let got = streams::read_full(input, &mut bytes)?;
     if got == 0 {
-        return false;
+        return Ok(false);
     }
     let filled = fill(&bytes[..got], &mut text);
-    io::write_all(STDOUT_FILENO, &text[..filled])
+    output.write_all(&text[..filled])?;
+    Ok(true)
 }
 
 // The listing of up to PARTS parts, from the text's first byte on. Answers how many bytes it has.

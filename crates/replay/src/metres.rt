@@ -23,8 +23,6 @@ fn bits_of(x: f64) -> u64 {
 
 // 16 hex digits, with a space before them.
 fn put_bits(out: &mut [u8], at: usize, bits: u64) -> usize {
-    let mut digits = [0u8; 16];
-    let n = io::hex(bits, 16, &mut digits);
     let first = text::put_bytes(out, at, b" ");
-    text::put_bytes(out, first, &digits[..n])
+    text::put_hex(out, first, &bits.to_be_bytes())
 }

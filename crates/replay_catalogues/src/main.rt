@@ -1,34 +1,39 @@
 // Runs the library on the second program's vectors of catalogues, kinds 14 to 17 (docs/VECTORS.md), a line each.
 #![tactic(auto)]
 
-use libc::STDOUT_FILENO;
+use std::io;
+use std::io::{Read, Write};
 
 mod catalogues;
 
-// The loop has to end, and nothing says that the input does: it counts down from a number that no run uses up.
-fn main() {
-    let mut turns = u64::MAX;
-    while turns > 0 && answer_one() {
-        turns -= 1;
+// The loop has to end, and nothing says that the input does: it counts up to a number that no run reaches.
+fn main(rt: HostRuntime) -> io::Result<()> {
+    let mut input = rt.stdin();
+    let mut output = rt.stdout();
+    for _ in 0..u64::MAX {
+        if !answer_one(&mut input, &mut output)? {
+            break;
+        }
     }
+    Ok(())
 }
 
-// Reads one vector and writes its line; false where no whole header is left.
-fn answer_one() -> bool {
-    let mut space = io::large_buffer();
-    let v = wire::read(&mut space);
+// Reads one vector and writes its line; false where no whole header is left. A read or a write that fails is handed on.
+fn answer_one<R: Read, W: Write>(input: &mut R, output: &mut W) -> io::Result<bool> {
+    let mut space = [0u8; 65536];
+    let v = wire::read(input, &mut space)?;
     if v.more {
-        write_line(v.kind, wire::first(&space, v.length));
+        write_line(output, v.kind, wire::first(&space, v.length))?;
     }
-    v.more
+    Ok(v.more)
 }
 
 // Makes a vector's line in a buffer, and writes it at once.
-fn write_line(kind: u64, s: &[u8]) {
-    let mut line = io::large_buffer();
+fn write_line<W: Write>(output: &mut W, kind: u64, s: &[u8]) -> io::Result<()> {
+    let mut line = [0u8; 65536];
     let end = answer(kind, s, &mut line);
     let whole = text::put_bytes(&mut line, end, b"\n");
-    io::write_all(STDOUT_FILENO, wire::first(&line, whole));
+    output.write_all(wire::first(&line, whole))
 }
 
 // Puts the vector's line but for its end, and answers its length. A kind that is not here gets an empty line.

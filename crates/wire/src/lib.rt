@@ -2,15 +2,16 @@
 // A part of a line is put at a place in a lent buffer, as those of `text` are, and the place after it is answered.
 #![tactic(auto)]
 
-ghost use Rattle.std.specs.Prelude.{◌≡◌, ◌≤◌, min, drop, get_or, length, take};
+ghost use Rattle.std.specs.Prelude.{◌≡◌, ◌≤◌, IfOk, min, drop, get_or, length, take};
 ghost use Rattle.octets.specs.Octets as O;
 ghost use Rattle.text.specs.Text as T;
 ghost use Rattle.wire.specs.Line as L;
 ghost use Rattle.wire.specs.Payload as P;
 
 use card::Card;
-use libc::STDIN_FILENO;
 use mark::Vec3;
+use std::io;
+use std::io::Read;
 use tides::{Body, BodyVector};
 
 // A vector that was read: whether there was one, its kind, and how many bytes of its payload were read.
@@ -21,33 +22,34 @@ pub struct Vector {
     pub length: usize,
 }
 
-// Reads the next vector of standard input, its payload to the start of `space`. A payload that is longer than `space` is read up to there.
-pub fn read(space: &mut [u8]) -> Vector
-    ensures { result.length ≤ length space.new }
+// Reads the next vector of a stream, its payload to the start of `space`. A payload that is longer than `space` is read up to there.
+// A read that fails is handed on.
+pub fn read<R: Read>(input: &mut R, space: &mut [u8]) -> io::Result<Vector>
+    ensures { IfOk result (λ v. v.length ≤ length space.new) }
 {
     let mut header = [0u8; 8];
-    if io::read_full(STDIN_FILENO, &mut header) < 8 {
-        return Vector {
+    if streams::read_full(input, &mut header)? < 8 {
+        return Ok(Vector {
             more: false,
             kind: 0,
             length: 0,
-        };
+        });
     }
     let kind = octets::unsigned_at(&header, 0, 1);
-    let length = read_part(space, octets::unsigned_at(&header, 4, 4));
-    Vector {
+    let length = read_part(input, space, octets::unsigned_at(&header, 4, 4))?;
+    Ok(Vector {
         more: true,
         kind,
         length,
-    }
+    })
 }
 
 // Reads up to n bytes to the start of `space`, and answers how many it read.
-fn read_part(space: &mut [u8], n: u64) -> usize
-    ensures { result ≤ length space.new }
+fn read_part<R: Read>(input: &mut R, space: &mut [u8], n: u64) -> io::Result<usize>
+    ensures { IfOk result (λ got. got ≤ length space.new) }
 {
     let k = at_most(n, space.len());
-    io::read_full(STDIN_FILENO, &mut space[..k])
+    streams::read_full(input, &mut space[..k])
 }
 
 // The lesser of a number read and a limit.

@@ -1,0 +1,22 @@
+// Reads from a stream until a buffer is full.
+#![tactic(auto)]
+
+ghost use Rattle.std.specs.Prelude.{◌≤◌, IfOk, length};
+
+use std::io;
+use std::io::Read;
+
+// Reads to the start of `space` until it is full or the input ends, and answers how many bytes it read. A read that fails is handed on.
+pub fn read_full<R: Read>(input: &mut R, space: &mut [u8]) -> io::Result<usize>
+    ensures { IfOk result (λ n. n ≤ length space.new) }
+{
+    let mut done = 0usize;
+    while done < space.len() {
+        let n = input.read(&mut space[done..])?;
+        if n == 0 {
+            break;
+        }
+        done += n;
+    }
+    Ok(done)
+}
