@@ -21,22 +21,18 @@ module _ (s : List ℕ) (at : ℕ) {x y z : Float} (e : x ≡ double_at s (at + 
   unfolding body_at
   sun-at h = rw (e, f, g, ne_eqb _ _ h) refl
 
-returns : tie.Need-returns
+returns : tie.Need-returns-then-byte_at-eq0
 returns c =
-    let b = c.before.before.before.before in
-    let a = b.before.before.args in
-    moon-at a.s.now a.at b.double-at.ensures c.before.before.before.double-at2.ensures c.before.before.double-at3.ensures
-    (sym c.before.byte_at.ensures ∙ c.if1.true)
+    moon-at c.args.s.now c.args.at c.double_at.ensures c.double_at-2.ensures c.double_at-3.ensures
+    (sym c.byte_at.ensures ∙ c.if-byte_at-eq0.true)
 
-returns-2 : tie.Need-returns-2
+returns-2 : tie.Need-returns
 returns-2 c =
-    let b = c.before.before.before.before in
-    let a = b.before.before.args in
-    sun-at a.s.now a.at b.double-at.ensures c.before.before.before.double-at2.ensures c.before.before.double-at3.ensures
-    (λ h. c.if1.false (c.before.byte_at.ensures ∙ h))
+    sun-at c.args.s.now c.args.at c.double_at.ensures c.double_at-2.ensures c.double_at-3.ensures
+    (λ h. c.if-byte_at-eq0.false (c.byte_at.ensures ∙ h))
 
-pub body-at-spec : {M : Type 1} → statement M
-body-at-spec =
+pub body_at_spec : {M : Type 1} → statement M
+body_at_spec =
     tie.close
     (tie.spec (λ c. search rules) (λ c κs. search rules) (λ c. search rules) (λ c κs. search rules) (λ c. search rules) (λ c κs. search rules)
     (λ c κs. search rules) returns returns-2)

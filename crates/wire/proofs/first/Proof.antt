@@ -6,11 +6,11 @@ use lib.Seq.{length-take-le, take_all}
 use Rattle.wire.proofs.first.Statement.{statement}
 use Rattle.wire.proofs.first.Tie as tie
 
-slice-aggregate-result : tie.Need-slice-aggregate-result
-slice-aggregate-result c = let a = c.before.before.args in sym (length-take-le a.n a.s.now (omega arith))
+slice-aggregate-result : tie.Need-slice_bounds-result-end
+slice-aggregate-result c = sym (length-take-le c.args.n c.args.s.now (omega arith))
 
-returns-2 : tie.Need-returns-2
-returns-2 c = let a = c.before.args in sym (take_all a.n a.s.now (omega arith))
+returns-2 : tie.Need-returns
+returns-2 c = sym (take_all c.args.n c.args.s.now (omega arith))
 
 pub first_spec : {M : Type 1} → statement M
 first_spec = tie.close (tie.spec slice-aggregate-result (λ c. search rules) returns-2)

@@ -7,13 +7,13 @@ use lib.ListN.{drop_of_length-le}
 use Rattle.wire.proofs.from.Statement.{statement}
 use Rattle.wire.proofs.from.Tie as tie
 
-returns : tie.Need-returns
-returns c = let a = c.before.before.args in part_to_end a.s.now a.at
+returns : tie.Need-returns-then-at-s
+returns c = part_to_end c.args.s.now c.args.at
 
-returns-2 : tie.Need-returns-2
-returns-2 c = let a = c.before.before.args in sym (drop_of_length-le a.s.now {i = a.at} (omega arith))
+returns-2 : tie.Need-returns
+returns-2 c = sym (drop_of_length-le c.args.s.now {i = c.args.at} (omega arith))
 
-pub from-spec : {M : Type 1} → statement M
-from-spec =
+pub from_spec : {M : Type 1} → statement M
+from_spec =
     tie.close
     (tie.spec (λ c. search rules) (λ c. search rules) (λ c. search rules) returns (λ c. search rules) returns-2)

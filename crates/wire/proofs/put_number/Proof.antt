@@ -11,16 +11,13 @@ use Rattle.wire.proofs.put_number.Tie as tie
 returns : tie.Need-returns
 unfolding number_part
 returns c =
-    let s = c.before.before in
-    let n = s.before.before.before.before.before in
-    let a = n.before.before.before.args in
     let p =
     put-more (32 ∷ [])
-    (put-more (natural a.n) (put-none a.out.now a.at (omega arith) (omega arith)) n.put-natural.ensures.0 n.put-natural.ensures.1)
-    s.put-bytes.ensures.0 s.put-bytes.ensures.1 in
+    (put-more (natural c.args.n) (put-none c.args.out.now c.args.at (omega arith) (omega arith)) c.put_natural-end.ensures.0 c.put_natural-end.ensures.1)
+    c.put_bytes.ensures.0 c.put_bytes.ensures.1 in
     (p.place, p.holds)
 
-pub put-number-spec : {M : Type 1} → statement M
-put-number-spec =
+pub put_number_spec : {M : Type 1} → statement M
+put_number_spec =
     tie.close
-    (tie.spec (λ c κs. search rules) (λ c. search rules) (λ c κs. search rules) (λ c. search rules) returns)
+    (tie.spec (λ c. search rules) (λ c. search rules) (λ c. search rules) returns)

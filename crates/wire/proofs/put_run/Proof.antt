@@ -19,23 +19,17 @@ some : (s : List ℕ) → (length s ≡ 0 → ⊥) → hex_of s ≡ run_part s
 unfolding run_part
 some s h = rw (ne_eqb (length s) 0 h)
 
-returns : tie.Need-returns
+returns : tie.Need-returns-then-s-eq0
 returns c =
-    let p = c.before.before in
-    let t = p.before.before.before in
-    let a = t.before.before.before.args in
-    let e = none a.s.now t.if1.true in
-    (p.put-bytes.ensures.0 ∙ ap (λ (u : List ℕ). after a.at (length u)) e, p.put-bytes.ensures.1 ∙ ap (splice a.out.now a.at) e)
+    let e = none c.args.s.now c.if-s-eq0.true in
+    (c.put_bytes.ensures.0 ∙ ap (λ (u : List ℕ). after c.args.at (length u)) e, c.put_bytes.ensures.1 ∙ ap (splice c.args.out.now c.args.at) e)
 
-returns-2 : tie.Need-returns-2
+returns-2 : tie.Need-returns
 returns-2 c =
-    let p = c.before.before in
-    let t = p.before.before in
-    let a = t.before.before.before.args in
-    let e = some a.s.now t.if1.false in
-    (p.put-hex.ensures.0 ∙ ap (λ (u : List ℕ). after a.at (length u)) e, p.put-hex.ensures.1 ∙ ap (splice a.out.now a.at) e)
+    let e = some c.args.s.now c.if-s-eq0.false in
+    (c.put_hex.ensures.0 ∙ ap (λ (u : List ℕ). after c.args.at (length u)) e, c.put_hex.ensures.1 ∙ ap (splice c.args.out.now c.args.at) e)
 
-pub put-run-spec : {M : Type 1} → statement M
-put-run-spec =
+pub put_run_spec : {M : Type 1} → statement M
+put_run_spec =
     tie.close
-    (tie.spec (λ c. search rules) (λ c κs. search rules) (λ c. search rules) returns (λ c κs. search rules) (λ c. search rules) returns-2)
+    (tie.spec (λ c. search rules) (λ c. search rules) returns (λ c. search rules) (λ c. search rules) returns-2)
