@@ -1,10 +1,9 @@
--- `list::fill` meets its contract: the text holds the lines of the parts passed, each at most a line long. Assumes nothing.
+-- What the listing's loop keeps: the text holds the lines of the parts passed, each at most a line long. Assumes nothing.
 use mathlib.Core.Path.{◌≡◌, refl, sym, ap, ap₂, ◌∙◌}
 use mathlib.Core.Bool.{Bool, true, false}
 use mathlib.Core.List.{List, [], ◌++◌, append_assoc, append-nil}
 use Prim.Native.Nat.{ℕ, ◌+◌, ◌-◌, ◌*◌, ◌/◌, ◌%◌, ◌≤◌, ◌<◌, min}
 use native.Mathlib.Omega.{arith}
-use borrow.Author.Rules.{rules}
 use borrow.Author.Tests.{leb-true, leb-false}
 use lib.Dec.{leb}
 use lib.ListN.{length, take, drop, length-append, length-drop, drop_of_length-le}
@@ -18,8 +17,6 @@ use Rattle.listing.specs.Lines.{listing}
 use Rattle.listing.proofs.LineLaws.{line-most}
 use Rattle.listing.proofs.LinesLaws.{listing_none, listing-some}
 use Rattle.list.specs.Batch.{input_most, output_most}
-use Rattle.list.proofs.fill.Statement.{statement}
-use Rattle.list.proofs.fill.Tie as tie
 
 pub record Filled (parts text₀ text : List ℕ) (filled at : ℕ) : Type 0 where
   pub size : length parts ≤ input_most
@@ -34,19 +31,13 @@ pub record Filled (parts text₀ text : List ℕ) (filled at : ℕ) : Type 0 whe
   pub holds : text ≡ splice text₀ 0 written
   pub left : written ++ listing (drop at parts) ≡ listing parts
 
-abbrev invariant-loop : tie.invariant-loop
-invariant-loop parts text₀ filled₀ at₀ text filled at = Filled parts text₀ text filled at
-
-abbrev decreases-loop : tie.decreases-loop
-decreases-loop parts text₀ filled₀ at₀ text filled at = length parts - at
-
 -- before a part: whole parts were passed, and a line is free
 pub record Before (parts text : List ℕ) (filled at : ℕ) : Type 0 where
   pub whole : at % card_length ≡ 0
   pub spent : filled ≤ line_most * (at / card_length)
   pub free : filled + line_most ≤ length text
 
-before : {parts text₀ text : List ℕ} {filled at : ℕ} → at < length parts → Filled parts text₀ text filled at → Before parts text filled at
+pub before : {parts text₀ text : List ℕ} {filled at : ℕ} → at < length parts → Filled parts text₀ text filled at → Before parts text filled at
 before {parts} {text₀} {text} {filled} {at} h p =
     let w = p.steps h in
     record { whole = w; spent = omega (arith, p.spent); free = omega (arith, p.spent, p.size, p.room, p.kept) }
@@ -100,7 +91,20 @@ pub record Wrote (parts text text' : List ℕ) (filled at end r : ℕ) : Type 0 
   pub short : r ≤ line_most
   pub put : text' ≡ splice text filled (line_of (take (end - at) (drop at parts)))
 
-next : {parts text₀ text text' : List ℕ} {filled at end r : ℕ} → at < length parts → Filled parts text₀ text filled at → end ≡ min (at + card_length) (length parts)
+-- what the call answered of the rest of the text, put back
+pub wrote : {parts text₀ text out : List ℕ} {filled at end r : ℕ} → at < length parts → Filled parts text₀ text filled at
+    → r ≡ length (line_of (take (end - at) (drop at parts))) → out ≡ splice (mid_of filled (length text - filled) text) 0 (line_of (take (end - at) (drop at parts)))
+    → Wrote parts text (put_mid filled (length text - filled) text out) filled at end r
+wrote {parts} {text₀} {text} {out} {filled} {at} {end} {r} h p e put =
+    let line : List ℕ = line_of (take (end - at) (drop at parts)) in
+    let short = line-most (take (end - at) (drop at parts)) in
+    record {
+      size = e;
+      short = omega (arith, short);
+      put = ap (put_mid filled (length text - filled) text) put ∙ in_rest text filled line (omega (arith, short, (before h p).free));
+    }
+
+pub next : {parts text₀ text text' : List ℕ} {filled at end r : ℕ} → at < length parts → Filled parts text₀ text filled at → end ≡ min (at + card_length) (length parts)
     → Wrote parts text text' filled at end r → Filled parts text₀ text' (filled + r) end
 next {parts} {text₀} {text} {text'} {filled} {at} {end} {r} h p e w =
     let b = before h p in
@@ -129,77 +133,8 @@ next {parts} {text₀} {text} {text'} {filled} {at} {end} {r} h p e w =
     }
 
 -- the loop is done: nothing is left
-ended : {parts text₀ text : List ℕ} {filled at : ℕ} → length parts ≤ at → (p : Filled parts text₀ text filled at) → p.written ≡ listing parts
+pub ended : {parts text₀ text : List ℕ} {filled at : ℕ} → length parts ≤ at → (p : Filled parts text₀ text filled at) → p.written ≡ listing parts
 ended {parts} {at = at} h p =
     sym (append-nil p.written)
     ∙ ap (λ (rest : List ℕ). p.written ++ rest) (sym (listing_none (drop at parts) (simp length-drop (omega arith))))
     ∙ p.left
-
-ready : (c : tie.In-loop invariant-loop decreases-loop)
-    → Before c.before.before.before.before.args.parts.now c.before.loop.text c.before.loop.filled c.before.loop.at
-ready c = before c.loop-test.true c.before.loop.invariant
-
-loop-holds : tie.Need-loop-init invariant-loop decreases-loop
-unfolding splice
-loop-holds c =
-    let s = c.before.before in
-    record {
-      size = s.requires.0;
-      room = s.requires.1;
-      kept = refl;
-      within = omega arith;
-      steps = λ h. refl;
-      spent = omega arith;
-      written = [];
-      count = refl;
-      holds = refl;
-      left = refl;
-    }
-
-line-short : (c : tie.After-slice-known2 invariant-loop decreases-loop) → c.before.before.line.result ≤ line_most
-line-short c =
-    let l = c.before.before.before.before.before.before.before.loop in
-    let a = c.before.before.before.before.before.before.before.before.before.before.args in
-    omega (arith, c.before.before.line.ensures.0, line-most (take (c.before.before.before.before.before.part-end.result - l.at) (drop l.at a.parts.now)))
-
-add-filled : tie.Need-overflow-add-filled invariant-loop decreases-loop
-add-filled c = omega (arith, line-short c, (ready c.before.before.before.before.before.before).free, c.before.before.before.before.before.before.before.loop.invariant.kept, c.before.before.before.before.before.before.before.before.before.before.well_formed)
-
-loop-less : tie.Need-loop-smaller invariant-loop decreases-loop
-loop-less c = omega (arith, c.before.before.before.before.before.part-end.ensures, c.before.before.before.before.before.before.loop-test.true)
-
-wrote : (c : tie.After-slice-known2 invariant-loop decreases-loop)
-    → let l = c.before.before.before.before.before.before.before.loop in
-    Wrote c.before.before.before.before.before.before.before.before.before.before.args.parts.now l.text
-    (put_mid l.filled (length l.text - l.filled) l.text c.before.before.line.new.1.0)
-    l.filled l.at c.before.before.before.before.before.part-end.result c.before.before.line.result
-wrote c =
-    let l = c.before.before.before.before.before.before.before.loop in
-    let parts = c.before.before.before.before.before.before.before.before.before.before.args.parts.now in
-    let line : List ℕ = line_of (take (c.before.before.before.before.before.part-end.result - l.at) (drop l.at parts)) in
-    record {
-      size = c.before.before.line.ensures.0;
-      short = line-short c;
-      put =
-          ap (put_mid l.filled (length l.text - l.filled) l.text) c.before.before.line.ensures.1
-          ∙ in_rest l.text l.filled line (omega (arith, c.before.before.line.ensures.0, line-short c, (ready c.before.before.before.before.before.before).free));
-    }
-
-loop-again : tie.Need-loop-preserved invariant-loop decreases-loop
-loop-again c =
-    next c.before.before.before.before.before.before.loop-test.true c.before.before.before.before.before.before.before.loop.invariant
-    c.before.before.before.before.before.part-end.ensures (wrote c)
-
-returns : tie.Need-returns invariant-loop decreases-loop
-returns c =
-    let i = c.before.loop.invariant in
-    let e = ended c.loop-test.false i in
-    (i.count ∙ ap length e, (i.holds ∙ ap (splice _ 0) e, omega (arith, i.spent, i.within, i.size)))
-
-pub fill_spec : {M : Type 1} → statement M
-fill_spec =
-    tie.close
-    (tie.spec invariant-loop decreases-loop loop-holds (λ c κs. omega arith) (λ c. omega (arith, c.part-end.ensures)) (λ c. omega (arith, c.part-end.ensures))
-    (λ c. omega (arith, c.part-end.ensures)) (λ c. omega (arith, (ready c.before.before).free))
-    (λ c. omega (arith, (ready c.before.before).free)) (λ c. omega (arith, (ready c.before.before).free)) (λ c κs. search rules) add-filled
-    loop-less loop-again (λ c. c.before.loop.invariant.kept) returns)

@@ -1,0 +1,2 @@
+-- What the listing's loop keeps.
+pub mod FillLaws
