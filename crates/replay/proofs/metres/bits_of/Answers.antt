@@ -1,5 +1,5 @@
 -- What equals itself is no NaN, so it has its bits.
-use Rattle.std.proofs.Common.{◌≡◌, sym, ◌∙◌, subst, Bool, false}
+use Rattle.std.proofs.Common.{◌≡◌, sym, ◌∙◌, subst, false}
 use mathlib.Core.Bool.{not}
 use lib.Dec.{T}
 use lib.Ieee.{Float, nan, inf, fin, ne, is_nan}
