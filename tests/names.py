@@ -46,9 +46,9 @@ def all_names():
 
 def parts(cited):
     """The identifiers of what stands between backquotes; none where it is a command, a number or a formula."""
-    if not re.fullmatch(r"[\w'′:.()-]+", cited) or cited.endswith(".py"):
+    if not re.fullmatch(r"[\w':.()-]+", cited) or cited.endswith(".py"):
         return []
-    return [part for part in re.split(r"::|\.", cited.replace("()", "")) if re.fullmatch(r"[A-Za-z'][\w′-]*", part)]
+    return [part for part in re.split(r"::|\.", cited.replace("()", "")) if re.fullmatch(r"[A-Za-z'][\w'-]*", part)]
 
 
 def cited_in(words):

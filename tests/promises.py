@@ -7,16 +7,16 @@ import os
 import re
 import sys
 
-HEAD = re.compile(r'^\s*pub (?:extern "C" )?fn (\w+)')
+HEAD = re.compile(r'^\s*pub (?:const |unsafe |extern "C" )*fn (\w+)')
 CLAUSE = re.compile(r"^\s*(ensures|requires)\b")
 
 
 def libraries():
     with open("crates.txt", encoding="utf8") as file:
         for line in file:
-            name = line.split("#")[0].split(":")[0].strip()
-            if name and os.path.exists(f"crates/{name}/src/lib.rt"):
-                yield name
+            words = line.split("#")[0].split(":")[0].split()  # the crate's name, and whether it is a static library
+            if words and os.path.exists(f"crates/{words[0]}/src/lib.rt"):
+                yield words[0]
 
 
 def reached(path):
