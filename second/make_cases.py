@@ -24,7 +24,7 @@ CASES = [
 
 
 def number(n):
-    return f"(pos {n})" if n >= 0 else f"(negℤ (pos {-n}))"
+    return f"(pos {n})" if n >= 0 else f"(neg_ℤ (pos {-n}))"
 
 
 def vec(v):
@@ -113,16 +113,16 @@ p("""-- The formulas at five marks and five pairs of bodies, to be held against 
 --
 -- second/exact.py of the second program gives the same numbers: floor(x * 10**9) for x in permanent(mark, l), and in
 -- tide(mark, moon, sun, l, r, s). The distances l, r and s are the whole ones; at three of the marks there are also statements at others.
-use mathlib.Core.Path.{_≡_, refl, sym}
-use Prim.Native.Nat.{ℕ, _+_, _*_, _/_, _^_, _<_}
+use mathlib.Core.Path.{◌≡◌, refl, sym}
+use Prim.Native.Nat.{ℕ, ◌+◌, ◌*◌, ◌/◌, ◌^◌, ◌<◌}
 use lib.Dec.{T, leb, ltb, leb→le, ltb→lt, lit<}
-use lib.IntN.{ℤ, pos, negsuc, negℤ}
-use Rattle·algebra.specs.Fraction.{Fraction, Positive, whole, ratio, wholly, _+ᶠ_, _-ᶠ_, _*ᶠ_, _·ᶠ_, _/ᶠ_, _÷ᶠ_}
-use Rattle·numbers.proofs.RootLaws.{root-same}
-use Rattle·mark.specs.declared.Vec3.{Vec3}
-use Rattle·mark.specs.Mark.{vec, squares, lengthOf}
-use Rattle·laws·specs.specs.Formulas.{Vector, dot, P2, P3, slope3, radial, north, Re, strength_at, strength_three_at, h2, l2, h3, l3}
-use Rattle·laws·specs.specs.Formulas.{permanent_formula, solid_formula}
+use lib.IntN.{ℤ, pos, negsuc, neg_ℤ}
+use Rattle.algebra.specs.Fraction.{Fraction, Positive, whole, ratio, wholly, ◌+ᶠ◌, ◌-ᶠ◌, ◌*ᶠ◌, ◌·ᶠ◌, ◌/ᶠ◌, ◌÷ᶠ◌}
+use Rattle.numbers.proofs.RootLaws.{root-same}
+use Rattle.mark.specs.declared.Vec3.{Vec3}
+use Rattle.mark.specs.Mark.{vec, squares, length_of}
+use Rattle.laws.specs.Formulas.{Vector, dot, P2, P3, slope3, radial, north, Re, strength_at, strength_three_at, h2, l2, h3, l3}
+use Rattle.laws.specs.Formulas.{permanent_formula, solid_formula}
 
 -- ---- the inputs
 """)
@@ -132,14 +132,14 @@ for kind, unit, at in (("", "metres", 1), ("-moon", "metres", 2), ("-sun", "kilo
         name = case[0] + kind
         p(f"abbrev pub {name} : Vec3\n{name} = {vec(case[at])}\n")
 p("""-- their whole lengths, by what a root is
-is-length : (v : Vec3) (l : ℕ) → T (leb (l * l) (squares v)) → T (ltb (squares v) ((l + 1) * (l + 1))) → lengthOf v ≡ l
-unfolding lengthOf
+is-length : (v : Vec3) (l : ℕ) → T (leb (l * l) (squares v)) → T (ltb (squares v) ((l + 1) * (l + 1))) → length_of v ≡ l
+unfolding length_of
 is-length v l a b = sym (root-same (squares v) l (record { below = leb→le (l * l) (squares v) a; above = ltb→lt (squares v) ((l + 1) * (l + 1)) b }))
 """)
 for kind, title, at in (("", "marks", 1), ("-moon", "moons", 2), ("-sun", "suns", 3)):
     p(f"pub {title}-lengths :")
     for i, case in enumerate(CASES):
-        p(f"    {'× ' if i else ''}(lengthOf {case[0]}{kind} ≡ {mark.length(case[at])})")
+        p(f"    {'× ' if i else ''}(length_of {case[0]}{kind} ≡ {mark.length(case[at])})")
     p("unfolding squares")
     p(f"{title}-lengths = (")
     for case in CASES:
@@ -153,13 +153,13 @@ down (pos n) d = pos (n / d)
 down (negsuc n) d = negsuc (n / d)
 
 unfoldable pub billionths : Fraction → ℤ
-unfolding _·ᶠ_
-billionths X = down ((pos (10 ^ 9) ·ᶠ X) .num) (X .den)
+unfolding ◌·ᶠ◌
+billionths X = down (pos (10 ^ 9) ·ᶠ X).num X.den
 
 -- with all that the formulas are made of open
 unfoldable pub floors : Vector → Vec3
-unfolding down billionths dot P2 P3 slope3 radial north Re strength_at strength_three_at h2 l2 h3 l3 whole ratio wholly _+ᶠ_ _-ᶠ_ _*ᶠ_ _·ᶠ_ _/ᶠ_ _÷ᶠ_
-floors v = vec (billionths (v .x)) (billionths (v .y)) (billionths (v .z))
+unfolding down billionths dot P2 P3 slope3 radial north Re strength_at strength_three_at h2 l2 h3 l3 whole ratio wholly ◌+ᶠ◌ ◌-ᶠ◌ ◌*ᶠ◌ ◌·ᶠ◌ ◌/ᶠ◌ ◌÷ᶠ◌
+floors v = vec (billionths v.x) (billionths v.y) (billionths v.z)
 
 -- ---- the permanent displacement
 """)
@@ -174,7 +174,7 @@ p("""-- ---- at other distances, each from the whole one up to, but not includin
 
 -- a distance in thousandths
 abbrev thousandths : (n : ℕ) → 0 < n → Positive
-thousandths n p = record { top = n; bottom = 1000; top-pos = p; bottom_pos = lit< tt }
+thousandths n p = record { top = n; bottom = 1000; top_pos = p; bottom_pos = lit< tt }
 """)
 for name, ending, what, ways in OTHERS:
     case, = (case for case in CASES if case[0] == name)
