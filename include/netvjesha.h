@@ -1,4 +1,4 @@
-/* netvjesha: station cards as bytes. Link with libnetvjesha.a (`rt staticlib netvjesha`), for x86-64.
+/* netvjesha: station cards as bytes. Link with libnetvjesha.a (`tests/archive` makes it), for x86-64.
  *
  * Units      1,461 grains are a micrometre, 1,461,000,000 grains a metre.
  *            Time is whole quarter-days from 2000.0; 1,461 of them are a year.
