@@ -16,15 +16,8 @@ use Rattle.frames.specs.declared.rows.Line.{Line}
 use Rattle.frames.specs.declared.rows.Row.{Row}
 use Rattle.frames.specs.Frame.{itrf2008, rows, row_of, micro, turned, frame_a, frame_b, frame_at, frame_shift, frame_gain}
 use Rattle.frames.specs.Lines.{LineWithin, term, terms}
+pub use Rattle.frames.proofs.RowSizes.{most_a, most_b}
 use Rattle.frames.proofs.LineLaws.{most, reach, term-bound, turn-bound, terms-offset, terms-drift}
-
--- the largest component of A at marks of at most 6,400,000 m a component, grains: ITRF88's z
-abbrev pub most_a : ℕ
-most_a = 284788066
-
--- the same of B, grains a quarter-day: ITRF93's z
-abbrev pub most_b : ℕ
-most_b = 12284
 
 -- ---- the rows: one test over the table
 

@@ -1,4 +1,5 @@
 -- `field::export` meets its contract: the buffer's length, the card's checks, the solid tide, then the record's bytes. Assumes nothing.
+use lib.ListN.{length}
 use mathlib.Core.Path.{◌≡◌, sym, ◌∙◌}
 use Prim.Native.Nat.{ℕ}
 use native.Mathlib.Omega.{arith}
@@ -22,8 +23,8 @@ export_spec =
     (tie.spec (λ c. kept_field _ _ _ (export-short _ _ c.if-out-ne-FIELD_LENGTH.true) one) (λ c κs. search rules)
     (λ c. kept_field _ _ _ (export-refused _ _ _ c.if-out-ne-FIELD_LENGTH.false (number_is c.before.before) c.if-away-ne0.true) c.if-away-ne0.true)
     (λ c κs. search rules)
-    (λ c. kept_field _ _ _ (export-tide _ _ _ c.if-out-ne-FIELD_LENGTH.false (number_is c.before.before.before.before) c.if-away-ne0.false (sym c.state_of.ensures ∙ c.if-state_of-eq2.true)) twelve)
+    (λ c. kept_field _ _ _ (export-tide c.args.c (length c.args.out.now) c.from_mark-away.result.number c.if-out-ne-FIELD_LENGTH.false (number_is c.before.before.before.before) c.if-away-ne0.false (omega arith)) twelve)
     (λ c κs. (c.if-out-ne-FIELD_LENGTH.false, offset-grains c.args.c c.from_mark-away.result c.from_mark-away.ensures c.if-away-ne0.false))
     (λ c. search rules)
-    (λ c. put-field _ _ _ (export-taken _ _ _ c.if-out-ne-FIELD_LENGTH.false (number_is c.before.before.before.before.before.before.before.before.before) c.if-away-ne0.false (λ h. c.if-state_of-eq2.false (c.state_of.ensures ∙ h)))
+    (λ c. put-field _ _ _ (export-taken c.args.c (length c.args.out.now) c.from_mark-away.result.number c.if-out-ne-FIELD_LENGTH.false (number_is c.before.before.before.before.before.before.before.before.before) c.if-away-ne0.false (λ h. omega arith))
     c.encode_field.ensures))

@@ -1,4 +1,5 @@
 -- `head::shape_at` meets its contract. Assumes nothing.
+use native.Mathlib.Omega.{arith}
 use mathlib.Core.Path.{◌≡◌}
 use Prim.Native.Nat.{ℕ, ◌≤◌, ◌<◌}
 use borrow.Author.Tests.{le-leb, lt-leb, ne_eqb}
@@ -26,7 +27,7 @@ low i b n h = rw (ne_eqb i 5 n, lt-leb 48 b h)
 pub shape_at_spec : {M : Type 1} → statement M
 shape_at_spec =
     tie.close
-    (tie.spec (λ c. letter-m c.args.i c.args.b c.if-i-eq5.true c.if-b-eq77.true)
-    (λ c. letter-s c.args.i c.args.b c.if-i-eq5.true c.if-b-eq77.false)
-    (λ c. high c.args.i c.args.b c.if-i-eq5.false c.if-b-ge48.true)
-    (λ c. low c.args.i c.args.b c.if-i-eq5.false c.if-b-ge48.false))
+    (tie.spec (λ c. letter-m c.args.i c.args.b (omega arith) c.if-b-eq77.true)
+    (λ c. letter-s c.args.i c.args.b (omega arith) c.if-b-eq77.false)
+    (λ c. high c.args.i c.args.b (λ e. omega arith) c.if-b-ge48.true)
+    (λ c. low c.args.i c.args.b (λ e. omega arith) c.if-b-ge48.false))

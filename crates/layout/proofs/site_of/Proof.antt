@@ -30,14 +30,11 @@ short : (s : List ℕ) → length s < 9 → replicate 9 0 ≡ site_of s
 unfolding site_of
 short s h = rw (lt-ltb (length s) 9 h)
 
-returns : tie.Need-returns-then-s-lt9
-returns c = short c.args.s.now c.if-s-lt9.true
-
 returns-2 : tie.Need-returns
-returns-2 c = nine c.args.s.now c.if-s-lt9.false
+returns-2 c = nine c.args.s.now (omega arith)
 
 pub site_of_spec : {M : Type 1} → statement M
 site_of_spec =
     tie.close
-    (tie.spec returns (λ c. search rules) (λ c. search rules) (λ c. search rules) (λ c. search rules) (λ c. search rules) (λ c. search rules)
+    (tie.spec (λ c. short c.args.s.now (omega arith)) (λ c. search rules) (λ c. search rules) (λ c. search rules) (λ c. search rules) (λ c. search rules) (λ c. search rules)
     (λ c. search rules) (λ c. search rules) (λ c. search rules) returns-2)

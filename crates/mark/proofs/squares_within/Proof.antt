@@ -5,20 +5,15 @@ use Rattle.mark.proofs.LengthLaws.{no-range, asked, not-asked}
 use Rattle.mark.proofs.squares_within.Statement.{statement}
 use Rattle.mark.proofs.squares_within.Tie as tie
 
-returns : tie.Need-returns-then-high-gt1073741823
-returns c =
-    let a = c.before.args in
-    sym (not-asked a.low a.high a.v c.if-high-gt1073741823.true)
-
 returns-2 : tie.Need-returns-then-high-low
 returns-2 c =
     let a = c.before.before.args in
-    sym (asked a.low a.high a.v (omega (arith, c.before.if-high-gt1073741823.false)) ∙ no-range a.low a.high a.v c.if-high-low.true)
+    sym (asked a.low a.high a.v (omega arith) ∙ no-range a.low a.high a.v c.if-high-low.true)
 
 returns-3 : tie.Need-returns
 returns-3 c =
     let a = c.before.before.before.args in
-    c.sum_within.ensures ∙ sym (asked a.low a.high a.v (omega (arith, c.before.before.if-high-gt1073741823.false)))
+    c.sum_within.ensures ∙ sym (asked a.low a.high a.v (omega arith))
 
 pub squares_within_spec : {M : Type 1} → statement M
-squares_within_spec = tie.close (tie.spec returns returns-2 (λ c κs. (omega arith, omega arith)) returns-3)
+squares_within_spec = tie.close (tie.spec (λ c. sym (not-asked c.args.low c.args.high c.args.v (omega arith))) returns-2 (λ c κs. (omega arith, omega arith)) returns-3)

@@ -1,4 +1,5 @@
 -- `netvjesha::nv_permanent` meets its contract: the output's length, the mark, then three numbers. Assumes nothing.
+use native.Mathlib.Omega.{arith}
 use mathlib.Core.Path.{◌≡◌, ap, ◌∙◌}
 use borrow.Author.Rules.{rules}
 use Rattle.algebra.proofs.Machine.{answered}
@@ -17,17 +18,15 @@ answer-is p =
     let f = p.ranges in
     p.permanent-s.ensures ∙ ap permanent_answer (back f.x f.y f.z)
 
-returns-2 : tie.Need-returns-then-s-ne0
-returns-2 c =
-    permanent-unmarked (vec c.args.x c.args.y c.args.z) c.args.out.now c.permanent-s.result c.if-out-ne3.false (answer-is c.before.before) c.if-s-ne0.true
-
 returns-3 : tie.Need-returns
 returns-3 c =
     let k = c.struct_told-3-1.given in
-    permanent-called (vec c.args.x c.args.y c.args.z) c.args.out.now c.permanent-s.result _ _ _ c.if-out-ne3.false (answer-is c.before.before.before.before.before.before) c.if-s-ne0.false
+    permanent-called (vec c.args.x c.args.y c.args.z) c.args.out.now c.permanent-s.result _ _ _ c.if-out-ne3.false (answer-is c.before.before.before.before.before.before) (omega arith)
     (answered c.permanent-s.result.shift.x k.0.1) (answered c.permanent-s.result.shift.y k.1.0.1) (answered c.permanent-s.result.shift.z k.1.1.0.1)
 
 pub nv_permanent_spec : {M : Type 1} → statement M
 nv_permanent_spec =
     tie.close
-    (tie.spec returns (λ c κs. search rules) returns-2 (λ c. search rules) (λ c. search rules) (λ c. search rules) (λ c. search rules) returns-3)
+    (tie.spec returns (λ c κs. search rules)
+    (λ c. permanent-unmarked (vec c.args.x c.args.y c.args.z) c.args.out.now c.permanent-s.result c.if-out-ne3.false (answer-is c.before.before) (λ e. omega arith))
+    (λ c. search rules) (λ c. search rules) (λ c. search rules) (λ c. search rules) returns-3)

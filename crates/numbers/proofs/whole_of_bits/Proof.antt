@@ -8,11 +8,11 @@ use native.Mathlib.Omega.{arith}
 use borrow.Author.Rules.{rules}
 use borrow.Author.Tests.{le-leb, lt-leb}
 use lib.Dec.{leb, lit<}
-use lib.IntN.{pos}
+use lib.IntN.{pos, ◌-ℤ◌}
 use lib.Ieee.{of_bits, of_fields, binary64}
 use lib.Pow.{shl_exact}
 use mir.Syntax.{w64}
-use mir.Val.{to_z}
+use mir.Val.{to_z, of_z}
 use Rattle.algebra.proofs.Machine.{Va, of_u, vneg, at, fit}
 use Rattle.numbers.specs.declared.Rounded.TheVariants.{NotFinite, Far, Number}
 use Rattle.numbers.specs.Near.{nearest}
@@ -56,30 +56,28 @@ middle b r l h e =
 mid : (c : tie.After-nearest-n) → whole_of (of_bits binary64 c.before.before.before.before.args.b) ≡ some (signed (leb (2 ^ 63) c.before.before.before.before.args.b) c.nearest-n.result)
 mid c = middle c.before.before.before.before.args.b c.nearest-n.result c.before.if-exponent-lt1022.false c.before.before.if-exponent-gt1053.false c.nearest-n.ensures
 
-returns-4 : tie.Need-returns-then-n-gt1073741824
-returns-4 c = sym (ap shown (mid c.before) ∙ shown-far (leb (2 ^ 63) c.before.before.before.before.before.args.b) c.before.nearest-n.result c.if-n-gt1073741824.true)
-
 -- at most 2^30, as an i64
 value : (r : ℕ) → r ≤ 1073741824 → Va (to_z w64 r) (pos r) 1073741824
 value r h = of_u h (lit< tt)
 
-returns-5 : tie.Need-returns-then-b-lt9223372036854775808
-returns-5 c =
-    let r = c.before.before.nearest-n.result in
-    let b = c.before.before.before.before.before.before.args.b in
-    ap Number (value r c.before.if-n-gt1073741824.false).told
-    ∙ sym (ap shown (mid c.before.before)
-    ∙ shown-number (leb (2 ^ 63) b) r c.before.if-n-gt1073741824.false
-    ∙ ap (λ (s : Bool). Number (signed s r)) (lt-leb (2 ^ 63) b c.if-b-lt9223372036854775808.true))
+-- past 2^30, and up to it by its sign
+far-is : (c : tie.After-nearest-n) → 1073741824 < c.nearest-n.result → Far ≡ shown (whole_of (of_bits binary64 c.args.b))
+far-is c h = sym (ap shown (mid c) ∙ shown-far (leb (2 ^ 63) c.args.b) c.nearest-n.result h)
 
-returns-6 : tie.Need-returns-else-b-lt9223372036854775808
-returns-6 c =
-    let r = c.before.before.nearest-n.result in
-    let b = c.before.before.before.before.before.before.args.b in
-    ap Number (at (vneg (value r c.before.if-n-gt1073741824.false)) (lit< tt)).told
-    ∙ sym (ap shown (mid c.before.before)
-    ∙ shown-number (leb (2 ^ 63) b) r c.before.if-n-gt1073741824.false
-    ∙ ap (λ (s : Bool). Number (signed s r)) (le-leb (2 ^ 63) b c.if-b-lt9223372036854775808.false))
+module _ (c : tie.After-nearest-n) (n : c.nearest-n.result ≤ 1073741824) where
+  upward : c.args.b < 9223372036854775808 → Number (to_z w64 c.nearest-n.result) ≡ shown (whole_of (of_bits binary64 c.args.b))
+  upward h =
+      ap Number (value c.nearest-n.result n).told
+      ∙ sym (ap shown (mid c)
+      ∙ shown-number (leb (2 ^ 63) c.args.b) c.nearest-n.result n
+      ∙ ap (λ (s : Bool). Number (signed s c.nearest-n.result)) (lt-leb (2 ^ 63) c.args.b h))
+
+  downward : 9223372036854775808 ≤ c.args.b → Number (to_z w64 (of_z w64 (pos 0 -ℤ to_z w64 c.nearest-n.result))) ≡ shown (whole_of (of_bits binary64 c.args.b))
+  downward h =
+      ap Number (at (vneg (value c.nearest-n.result n)) (lit< tt)).told
+      ∙ sym (ap shown (mid c)
+      ∙ shown-number (leb (2 ^ 63) c.args.b) c.nearest-n.result n
+      ∙ ap (λ (s : Bool). Number (signed s c.nearest-n.result)) (le-leb (2 ^ 63) c.args.b h))
 
 pub whole_of_bits_spec : {M : Type 1} → statement M
 whole_of_bits_spec =
@@ -87,5 +85,6 @@ whole_of_bits_spec =
     (tie.spec (λ c. none_at_top c.before.args.b (omega arith))
     (λ c. far-there c.before.before.args.b (omega arith) (below_top c.args.b (λ e. omega arith)))
     (λ c. zero-there c.before.before.before.args.b c.if-exponent-lt1022.true) (λ c. search rules) (λ c. search rules) (λ c. search rules)
-    (λ c κs. search rules) returns-4 (λ c. search rules) (λ c. search rules)
-    (λ c. fit (vneg (value c.before.before.nearest-n.result c.before.if-n-gt1073741824.false)) (lit< tt)) returns-5 returns-6)
+    (λ c κs. search rules) (λ c. far-is c.before (omega arith)) (λ c. search rules) (λ c. search rules)
+    (λ c. fit (vneg (value c.nearest-n.result (omega arith))) (lit< tt)) (λ c. upward c.before.before (omega arith) (omega arith))
+    (λ c. downward c.before.before (omega arith) (omega arith)))

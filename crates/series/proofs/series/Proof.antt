@@ -1,4 +1,5 @@
 -- `series::series` meets its contract. Assumes nothing.
+use native.Mathlib.Omega.{arith}
 use mathlib.Core.Path.{◌≡◌, refl, ap, ◌∙◌}
 use mathlib.Core.Bool.{true}
 use Prim.Native.Nat.{◌/◌}
@@ -45,10 +46,6 @@ returns-3 c =
     let r : answer 16 0 ≡ series_answer a.m a.bodies.now (length a.out.now) = series-uneven a.m a.bodies.now (length a.out.now) (mark-in c.before.before) (no-three (length a.bodies.now) (length a.out.now) c.if-out-rows.true) in
     (r, kept a.m a.bodies.now a.out.now (answer 16 0) r (eqb-false 16 0 refl))
 
-returns-4 : tie.Need-returns-then-seen-ne0
-returns-4 c =
-    (scanned c.before.before, kept c.args.m c.args.bodies.now c.args.out.now c.scan-seen.result (scanned c.before.before) c.if-seen-ne0.true)
-
 fill-requires : tie.Need-fill-requires
 fill-requires c κs =
     (c.if-bodies-rows.false, c.if-out-rows.false)
@@ -58,11 +55,12 @@ returns-5 c = (
   scanned c.before.before.before.before.before.before,
   c.fill.ensures
       ∙ ap (λ (w : Vec3). shifts_from w c.args.bodies.now 0 (length c.args.out.now / 3)) (aim-is c.args.m c.direction_of-aim.result c.direction_of-aim.ensures (mark-in c.before.before.before.before.before.before.before.before.before))
-      ∙ filled c.args.m c.args.bodies.now (mark-in c.before.before.before.before.before.before.before.before.before) c.args.out.now c.scan-seen.result c.scan-seen.ensures (scanned c.before.before.before.before.before.before) c.if-seen-ne0.false,
+      ∙ filled c.args.m c.args.bodies.now (mark-in c.before.before.before.before.before.before.before.before.before) c.args.out.now c.scan-seen.result c.scan-seen.ensures (scanned c.before.before.before.before.before.before) (omega arith),
 )
 
 pub series_spec : {M : Type 1} → statement M
 series_spec =
     tie.close
-    (tie.spec (λ c κs. search rules) returns (λ c. search rules) returns-2 (λ c. search rules) returns-3 (λ c κs. search rules) returns-4
+    (tie.spec (λ c κs. search rules) returns (λ c. search rules) returns-2 (λ c. search rules) returns-3 (λ c κs. search rules)
+    (λ c. (scanned c.before.before, kept c.args.m c.args.bodies.now c.args.out.now c.scan-seen.result (scanned c.before.before) (λ e. omega arith)))
     fill-requires (λ c. search rules) returns-5)

@@ -16,6 +16,7 @@ use Rattle.head.specs.Head.{epoch_fits}
 use Rattle.card.specs.Checks.{position_fits}
 use Rattle.card.proofs.CheckLaws.{Small, valid-small}
 use Rattle.card.proofs.StepLaws.{moved-tide, moved-epoch, moved-far, moved-near, too_long}
+use mathlib.Core.Bool.{false}
 use Rattle.card.proofs.calls.moved.Statement.{statement}
 use Rattle.card.proofs.calls.moved.Tie as tie
 
@@ -26,11 +27,12 @@ small c = valid-small c.args.c c.requires
 size : (c : tie.After-magnitude) → c.magnitude.result ≡ nat_abs c.args.d
 size c = c.magnitude.ensures ∙ ap nat_abs (to_z-of_z c.ranges.d)
 
-short : (c : tie.Else-magnitude-gt292200) → nat_abs c.args.d ≤ 292200
-short c = omega (arith, size c.before, c.if-magnitude-gt292200.false)
+-- a move that is no longer than the range
+short : (c : tie.After-struct_known-1) → nat_abs c.args.d ≤ 292200
+short c = omega (arith, size c.before.before)
 
 later : (c : tie.After-struct_told-1) → Va (rd c.args.c.epoch +ℤ rd c.args.d) (c.args.c.epoch +ℤ c.args.d) (146100 + 292200)
-later c = v+ (at (plain c.args.c.epoch (small c.before.before.before.before.before.before).epoch) (lit< tt)) (at (plain c.args.d (short c.before.before)) (lit< tt))
+later c = v+ (at (plain c.args.c.epoch (small c.before.before.before.before.before.before).epoch) (lit< tt)) (at (plain c.args.d (short c.before)) (lit< tt))
 
 epoch-is : (c : tie.After-epoch_fits) → c.epoch_fits.result ≡ epoch_fits (c.args.c.epoch +ℤ c.args.d)
 epoch-is c = c.epoch_fits.ensures ∙ ap epoch_fits (at (later c.before) (lit< tt)).told
@@ -51,11 +53,9 @@ free c h = c.if-state_of-eq2.false (c.state_of.ensures ∙ h)
 returns : tie.Need-returns-then-state_of-eq2
 returns c = moved-tide c.args.c c.args.d (sym c.state_of.ensures ∙ c.if-state_of-eq2.true)
 
-returns-2 : tie.Need-returns-then-magnitude-gt292200
-returns-2 c =
-    let s = c.before.before.before.before in
-    let far : 292200 < nat_abs s.args.d = omega (arith, size c.before, c.if-magnitude-gt292200.true) in
-    moved-epoch s.args.c s.args.d (free c.before.before) (too_long s.args.c.epoch s.args.d (small s).epoch far)
+-- a move that is longer than the whole range leaves it
+long : (c : tie.Start) → 292200 < nat_abs c.args.d → epoch_fits (c.args.c.epoch +ℤ c.args.d) ≡ false
+long c far = too_long c.args.c.epoch c.args.d (small c).epoch far
 
 add-epoch : tie.Need-overflow_add-epoch
 add-epoch c = fit (later c) (lit< tt)
@@ -66,14 +66,14 @@ returns-3 c =
 
 scaled-requires : tie.Need-scaled-requires
 scaled-requires c κs = (
-  omega (arith, short c.before.before.before.before.before.before, ap nat_abs (to_z-of_z c.ranges.d)),
+  omega (arith, short c.before.before.before.before.before, ap nat_abs (to_z-of_z c.ranges.d)),
   within-sized (widen (small c.before.before.before.before.before.before.before.before.before.before).velocity (lit≤ tt)),
 )
 
 plus-requires : tie.Need-plus-position-requires
 plus-requires c κs = (
   within-sized (widen (small c.before.before.before.before.before.before.before.before.before.before.before).position (lit≤ tt)),
-  sized-as (way-is c) (scaled-within c.args.d (short c.before.before.before.before.before.before.before) (small c.before.before.before.before.before.before.before.before.before.before.before).velocity) (lit≤ tt),
+  sized-as (way-is c) (scaled-within c.args.d (short c.before.before.before.before.before.before) (small c.before.before.before.before.before.before.before.before.before.before.before).velocity) (lit≤ tt),
 )
 
 position-fits-requires : tie.Need-position_fits-requires
@@ -96,5 +96,6 @@ returns-5 c =
 pub moved_spec : {M : Type 1} → statement M
 moved_spec =
     tie.close
-    (tie.spec (λ c κs. search rules) returns (λ c κs. search rules) returns-2 add-epoch (λ c κs. search rules) returns-3 scaled-requires plus-requires
+    (tie.spec (λ c κs. search rules) returns (λ c κs. search rules)
+    (λ c. moved-epoch c.args.c c.args.d (free c.before.before) (long c.before.before.before.before (omega (arith, size c.before)))) add-epoch (λ c κs. search rules) returns-3 scaled-requires plus-requires
     position-fits-requires returns-4 returns-5)
