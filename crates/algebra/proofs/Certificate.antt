@@ -9,12 +9,12 @@
 -- To find s, write r - l as a sum of products of the slacks at hand, by hand or by computer algebra: only the result
 -- stands here.
 use mathlib.Core.Path.{subst}
-use Prim.Native.Nat.{ℕ, ◌+◌, ◌*◌, ◌≤◌}
+use Prim.Native.Nat.{ℕ, ◌≤◌}
 use native.Mathlib.Omega.{arith}
 use lib.Dec.{T}
 use lib.IntN.{ℤ, pos, ◌+ℤ◌, ◌-ℤ◌, ◌*ℤ◌}
 use lib.Signed.{◌≤ℤ◌}
-use Rattle.algebra.proofs.Difference.{◌⊖◌, split, ℤ⊖}
+use Rattle.algebra.proofs.Difference.{split, ℤ⊖}
 use Rattle.algebra.proofs.IntLaws.{≤ℤ→slack, 0≤-+ℤ, 0≤-*ℤ, 0≤pos, pos-≤ℤ, ≤ℤ-pos}
 use Rattle.algebra.proofs.Polynomial.{Env}
 use Rattle.algebra.proofs.Ring.{Sides, agree, by-ring}

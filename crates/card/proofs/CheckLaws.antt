@@ -1,7 +1,7 @@
 -- What a card that passed its checks is: each check by itself, and how large each number can be; and the sizes of what the calls add.
 use mathlib.Core.Path.{◌≡◌, refl, sym, ap, ◌∙◌}
 use mathlib.Core.Bool.{Bool, true}
-use Prim.Native.Nat.{◌*◌, ◌≤◌}
+use Prim.Native.Nat.{◌≤◌}
 use native.Mathlib.Omega.{arith}
 use borrow.Author.Tests.{eqb-true, eq-eqb, not-false}
 use lib.Dec.{eqb, lit<}
@@ -16,7 +16,6 @@ use Rattle.mark.specs.Ranges.{Within}
 use Rattle.mark.proofs.MarkLaws.{accepted-within}
 use Rattle.mark.proofs.SizeLaws.{sized-is}
 use Rattle.frames.specs.Frame.{known_frame}
-use Rattle.tides.specs.Tide.{tide}
 use Rattle.head.specs.Head.{site_shape, epoch_fits}
 use Rattle.head.proofs.HeadLaws.{epoch-small}
 use Rattle.card.specs.declared.Card.{Card}

@@ -7,7 +7,6 @@ use native.Mathlib.Nat.{le_refl, le_trans}
 use native.Mathlib.Omega.{arith}
 use lib.Dec.{lit<, lit≤}
 use lib.IntN.{ℤ, pos, negsuc, nat_abs, ◌+ℤ◌, ◌-ℤ◌, ◌*ℤ◌}
-use Rattle.algebra.proofs.IntLaws.{abs-+}
 use Rattle.algebra.proofs.Machine.{plain, lit, v+, v-, v*}
 use Rattle.algebra.proofs.Ring.{quote, by-ring}
 use Rattle.numbers.specs.Near.{near}

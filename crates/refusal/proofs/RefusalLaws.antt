@@ -13,7 +13,6 @@ use borrow.Author.Tests.{ltb-true, eq-eqb, eqb-true, ne_eqb}
 use lib.Dec.{ltb, eqb}
 use lib.ListN.{length, get_or}
 use Rattle.algebra.proofs.BoolLaws.{both}
-use Rattle.refusal.specs.Outputs.{before}
 use Rattle.refusal.specs.Refusal.{Table, choose, first}
 
 -- the number and the condition at place k; past the end no condition holds

@@ -19,7 +19,6 @@ use Rattle.mark.proofs.LengthLaws.{within-length}
 use Rattle.tides.specs.Direction.{E, unit, units}
 use Rattle.tides.specs.Tide.{cosine}
 use Rattle.tides.specs.Steps.{Direction}
-use Rattle.numbers.specs.Near.{near}
 use Rattle.numbers.specs.Root.{IsRoot}
 use Rattle.numbers.proofs.RootLaws.{root_is}
 use Rattle.numbers.proofs.NearLaws.{near-size, near-bound}

@@ -1,6 +1,6 @@
 -- `field::export` meets its contract: the buffer's length, the card's checks, the solid tide, then the record's bytes. Assumes nothing.
 use lib.ListN.{length}
-use mathlib.Core.Path.{◌≡◌, sym, ◌∙◌}
+use mathlib.Core.Path.{◌≡◌}
 use Prim.Native.Nat.{ℕ}
 use native.Mathlib.Omega.{arith}
 use borrow.Author.Rules.{rules}

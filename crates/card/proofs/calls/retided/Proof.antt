@@ -1,17 +1,14 @@
 -- `card::calls::retided` meets its contract. Assumes nothing.
 use native.Mathlib.Omega.{arith}
 use mir.Syntax.{w64}
-use mathlib.Core.Path.{◌≡◌, sym, ◌∙◌}
+use mathlib.Core.Path.{sym, ◌∙◌}
 use borrow.Author.Rules.{rules}
-use borrow.Author.Tests.{not-true, not-false}
 use mir.Facts.{to_z-of_z}
-use Rattle.head.specs.State.{state_of}
 use Rattle.card.proofs.StepLaws.{retided-state, retided-besides, retided-far, retided-near}
 use Rattle.card.proofs.calls.retided.Statement.{statement}
 use Rattle.card.proofs.calls.retided.Tie as tie
 
--- byte 10 is in the state asked for, once the first test is passed: omega finds it
-
+-- that byte 10 is in the state asked for, once the first test is passed, omega finds
 returns-2 : tie.Need-returns-then-number-ne0
 returns-2 c =
     retided-besides c.args.c c.args.from c.args.to c.args.position c.args.solid (omega arith) c.args.number c.if-number-ne0.true

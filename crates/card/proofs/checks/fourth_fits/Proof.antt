@@ -1,7 +1,6 @@
 -- `card::checks::fourth_fits` meets its contract. Assumes nothing.
 use mathlib.Core.Path.{sym, ◌∙◌}
 use borrow.Author.Rules.{rules}
-use borrow.Author.Tests.{not-true, not-false}
 use Rattle.algebra.proofs.BoolLaws.{and_first, true-and}
 use Rattle.card.specs.Checks.{tide_fits}
 use Rattle.card.proofs.checks.fourth_fits.Statement.{statement}

@@ -3,7 +3,6 @@ use mathlib.Core.Path.{◌≡◌, refl, sym, ap, ◌∙◌}
 use mathlib.Core.Bool.{Bool, true, false}
 use native.Mathlib.Nat.{le_trans}
 use borrow.Author.Rules.{rules}
-use borrow.Author.Tests.{not-true, not-false}
 use lib.Dec.{T, lit≤}
 use Rattle.algebra.proofs.BoolLaws.{passes}
 use Rattle.mark.specs.declared.Vec3.{Vec3}

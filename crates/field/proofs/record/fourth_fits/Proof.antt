@@ -1,6 +1,5 @@
 -- `field::record::fourth_fits` meets its contract. Assumes nothing.
 use mathlib.Core.Path.{sym}
-use borrow.Author.Tests.{not-true, not-false}
 use lib.Dec.{leb}
 use Rattle.algebra.proofs.BoolLaws.{and_first, true-and}
 use Rattle.field.proofs.record.fourth_fits.Statement.{statement}

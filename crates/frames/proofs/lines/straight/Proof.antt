@@ -1,8 +1,7 @@
 -- `frames::lines::straight` meets its contract. Assumes nothing.
-use Prim.Native.Nat.{◌*◌}
 use borrow.Author.Rules.{rules}
 use lib.Dec.{lit<, lit≤}
-use lib.IntN.{ℤ, pos, ◌+ℤ◌, ◌*ℤ◌}
+use lib.IntN.{pos, ◌+ℤ◌, ◌*ℤ◌}
 use Rattle.algebra.proofs.Machine.{rd, Va, given, lit, at, v+, v*, fit}
 use Rattle.numbers.specs.Near.{near}
 use Rattle.numbers.proofs.NearSteps.{vnear}

@@ -1,7 +1,7 @@
 -- `frames::lines::term` meets its contract. Assumes nothing.
 use mathlib.Core.Path.{◌∙◌}
 use lib.Dec.{lit<}
-use lib.IntN.{ℤ, pos, ◌+ℤ◌, ◌*ℤ◌}
+use lib.IntN.{pos, ◌+ℤ◌, ◌*ℤ◌}
 use Rattle.algebra.proofs.Machine.{rd, Va, given, lit, at, v+, v*, fit, answered}
 use Rattle.frames.specs.Lines.{wide}
 use Rattle.frames.proofs.LineLaws.{wide_is, wide-bound}

@@ -7,12 +7,12 @@ use lib.IntN.{ℤ, nat_abs}
 use lib.Signed.{mag}
 use Rattle.algebra.proofs.Machine.{rd, plain, at, answered}
 use Rattle.mark.specs.declared.Vec3.{Vec3}
-use Rattle.mark.specs.Mark.{vec, sized}
+use Rattle.mark.specs.Mark.{vec}
 use Rattle.mark.specs.Ranges.{Within}
 use Rattle.mark.proofs.LengthLaws.{vec≡}
 use Rattle.frames.specs.declared.rows.Line.{Line}
 use Rattle.frames.specs.Frame.{turned}
-use Rattle.frames.specs.Lines.{term, straight, terms, threefold}
+use Rattle.frames.specs.Lines.{term, straight, terms}
 use Rattle.frames.proofs.LineLaws.{still, terms-straight, turned-within}
 use Rattle.frames.proofs.lines.terms.Statement.{statement}
 use Rattle.frames.proofs.lines.terms.Tie as tie

@@ -4,7 +4,7 @@ use Prim.Native.Nat.{ℕ, ◌+◌, ◌-◌, ◌*◌, ◌≤◌, ◌<◌}
 use native.Mathlib.Nat.{sub-zero}
 use native.Mathlib.Omega.{arith}
 use borrow.Author.Rules.{rules}
-use borrow.Author.Tests.{not-true, eqb-false}
+use borrow.Author.Tests.{eqb-false}
 use Rattle.series.specs.Series.{row_number, scan}
 use Rattle.series.proofs.SeriesLaws.{row_number_lem, ten, scan-end, scan_good, scan-bad}
 use Rattle.series.proofs.many.scan.Statement.{statement}

@@ -7,7 +7,7 @@ use lib.IntN.{ℤ}
 use Rattle.algebra.proofs.Machine.{rd, Va, lit, at, v*, fit}
 use Rattle.mark.specs.declared.Vec3.{Vec3}
 use Rattle.tides.specs.declared.solid.Standing.{Standing}
-use Rattle.tides.specs.Direction.{E, times}
+use Rattle.tides.specs.Direction.{E}
 use Rattle.tides.specs.Bodies.{third_k0}
 use Rattle.tides.specs.Tide.{cube, displaced, fourth, strength_three, height_three, slope_three, up_share_three, side_share_three, upward_three, sideways_three, degree_three}
 use Rattle.tides.specs.Steps.{Stood}
