@@ -1,4 +1,4 @@
--- The reader's two functions have one outcome each: what they answer, and what the lent reader is afterwards. Their proofs are walks.
+-- The reader's two functions have one outcome each: what they answer, and what the lent reader is afterwards. What each promises is tied by hand to the promise as it is generated, since a struct that holds a reference is lent.
 use mathlib.Core.Path.{◌≡◌, sym, ◌∙◌}
 use contract.Monad.{Fun, fact, fact_i, fact_use}
 use seplogic.Ra.Ura.{Ura}

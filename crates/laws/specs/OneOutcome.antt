@@ -21,7 +21,7 @@ OneShown n ps r P S show =
 abbrev pub OneOutcome : (n : ℕ) (ps : List (ParamKind n)) (r : ResultKind n) → Out n ps r → Type 0
 OneOutcome n ps r P = OneShown n ps r P (λ κs. (res_t r κs).Denot) (λ κs z. z)
 
--- the same of a function whose proof is a walk: c is its promise as it is generated, g what the promise names beside the arguments
+-- the same of a function over a struct that holds a reference: c is its promise as it is generated, g what the promise names beside the arguments
 abbrev pub OneWalked : {M : Type 1} (𝓤 : Ura M) (T : Ended) → Clauses 𝓤 T → Type 1
 OneWalked 𝓤 T c =
     (κs : Lfts T.signature.lifetimes) (a : Args T.signature κs) (g : (c κs a).ghost) (z z' : Res T.signature κs) (w w' : Lasts T κs a)

@@ -2,7 +2,8 @@
 // A part of a line is put at a place in a lent buffer, as those of `text` are, and the place after it is answered.
 #![tactic(auto)]
 
-ghost use Rattle.std.specs.Prelude.{◌≡◌, ◌≤◌, IfOk, min, drop, get_or, length, take};
+ghost use Rattle.std.specs.Prelude.{◌≡◌, ◌≤◌, IfOk, OnErr, min, drop, get_or, length, take};
+ghost use Rattle.streams.specs.Left.{TookSome};
 ghost use Rattle.octets.specs.Octets as O;
 ghost use Rattle.text.specs.Text as T;
 ghost use Rattle.wire.specs.Line as L;
@@ -23,9 +24,11 @@ pub struct Vector {
 }
 
 // Reads the next vector of a stream, its payload to the start of `space`. A payload that is longer than `space` is read up to there.
-// A read that fails is handed on.
+// The error of a read that fails is handed on, and there is no other; some bytes may have been taken from the stream then, and `space` is as long as it was.
 pub fn read<R: Read>(input: &mut R, space: &mut [u8]) -> io::Result<Vector>
-    ensures { IfOk result (λ v. v.length ≤ length space.new) }
+    ensures ok { IfOk result (λ v. v.length ≤ length space.new) }
+    ensures err { OnErr result (TookSome (R.remaining input.old) (R.remaining input.new)) }
+    ensures room { length space.new ≡ length space.old }
 {
     let mut header = [0u8; 8];
     if streams::read_full(input, &mut header)? < 8 {
@@ -44,9 +47,11 @@ pub fn read<R: Read>(input: &mut R, space: &mut [u8]) -> io::Result<Vector>
     })
 }
 
-// Reads up to n bytes to the start of `space`, and answers how many it read.
+// Reads up to n bytes to the start of `space`, and answers how many it read. The error of a read that fails is handed on, as of `read`.
 fn read_part<R: Read>(input: &mut R, space: &mut [u8], n: u64) -> io::Result<usize>
-    ensures { IfOk result (λ got. got ≤ length space.new) }
+    ensures ok { IfOk result (λ got. got ≤ length space.new) }
+    ensures err { OnErr result (TookSome (R.remaining input.old) (R.remaining input.new)) }
+    ensures room { length space.new ≡ length space.old }
 {
     let k = at_most(n, space.len());
     streams::read_full(input, &mut space[..k])

@@ -1,0 +1,2 @@
+-- What a read that failed has left.
+pub mod Left
