@@ -1,17 +1,16 @@
 -- Codes 0 to 2 keep every value that they had: their rows turn nothing, and without rotation A and B are the first formulas.
 use mathlib.Core.List.{[], ◌∷◌}
-use mathlib.Core.Path.{◌≡◌, refl, sym, ap, ◌∙◌}
-use Prim.Native.Nat.{ℕ, zero, suc, ◌≤◌}
-use native.Mathlib.Omega.{arith}
+use mathlib.Core.Path.{◌≡◌, sym, ap, ◌∙◌}
+use Prim.Native.Nat.{ℕ, ◌≤◌}
 use lib.IntN.{ℤ, pos, ◌+ℤ◌, ◌*ℤ◌}
 use Rattle.algebra.proofs.Ring.{by-ring, quote}
 use Rattle.numbers.specs.Near.{near}
 use Rattle.mark.specs.declared.Vec3.{Vec3}
-use Rattle.mark.specs.Mark.{nowhere}
 use Rattle.frames.specs.Frame.{row_of, offset, drift, frame_a, frame_b}
 use Rattle.frames.specs.Lines.{straight}
 use Rattle.frames.proofs.LineLaws.{term-offset, term-drift, term-straight, unturned}
 use Rattle.laws.specs.FirstFrames.{first_offset, first_drift, first_a, first_b}
+use Rattle.laws.proofs.StillRows.{still}
 
 -- ---- one component
 
@@ -26,13 +25,6 @@ drift-unturned t d m =
     sym (term-drift t d m (pos 0)) ∙ term-straight (pos 1) t d m ∙ ap (λ (z : ℤ). pos 100 *ℤ t +ℤ near z 100000) once
 
 -- ---- codes 0 to 2
-
-still : (g : ℕ) → g ≤ 2 → ((row_of g).at.r ≡ nowhere) × ((row_of g).rates.r ≡ nowhere)
-unfolding row_of
-still zero h = (refl, refl)
-still (suc zero) h = (refl, refl)
-still (suc (suc zero)) h = (refl, refl)
-still (suc (suc (suc g))) h = absurd (omega arith)
 
 module _ (g : ℕ) (h : g ≤ 2) (m : Vec3) where
   pub a-kept : frame_a g m ≡ first_a g m

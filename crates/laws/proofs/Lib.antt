@@ -22,6 +22,7 @@ pub mod EitherOrder
 pub mod ListTheorem
 pub mod IdleCalls
 pub mod FrameCalls
+pub mod StillRows
 pub mod FirstFrames
 pub mod TwoCardLaws
 pub mod AlikeNumbers
