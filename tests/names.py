@@ -14,10 +14,11 @@ DOCUMENTS = ["README", "docs/RULES", "docs/SENTENCES", "docs/PROMISES", "docs/DE
 
 # Words of the language, of the kit or of the header's parameters, and what is no name.
 WORDS = set("requires ensures unfolding with take drop set match self move io libc rt main i64 f64 u8 M S r out_len field_len stdin stdout nv_ useless SIZE RT_JOBS "
-            "refused done nan far apt-get".split())
+            "refused done nan far apt-get Result Ok Err Option Some None Display From TryFrom as_chunks "
+            "while for wrapping_neg get_mut iter_mut chunks_exact_mut unwrap_or".split())
 
 DEFINED = re.compile(r"^\s*(?:unfoldable |abbrev )*(?:pub )?(?:record |data )?([^\s:(]+) ", re.M)
-CODE = re.compile(r"\b(?:fn|struct|enum|const|mod) (\w+)|^\s*(?:pub )?(\w+)(?:: |,$|\(\w+\),$)|('\w+): loop", re.M)
+CODE = re.compile(r"\b(?:fn|struct|enum|trait|const|mod) (\w+)|^\s*(?:pub )?(\w+)(?:: |,$|\(\w+\),$| = \d+,$)|('\w+): (?:loop|{)", re.M)
 
 
 def text(path):

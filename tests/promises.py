@@ -20,16 +20,17 @@ def libraries():
 
 
 def reached(path):
-    """The file, and those that it opens to other crates by `pub mod`."""
+    """The file, and those that it opens to other crates by `pub mod`, or of which it hands a type on by `pub use`."""
     with open(path, encoding="utf8") as file:
         lines = file.read().splitlines()
     yield path, lines
     folder, stem = os.path.dirname(path), os.path.basename(path)[:-len(".rt")]
     inner = folder if stem == "lib" else os.path.join(folder, stem)
     for line in lines:
-        opened = re.match(r"\s*pub mod (\w+);", line)
-        if opened:
-            yield from reached(os.path.join(inner, opened.group(1) + ".rt"))
+        opened = re.match(r"\s*pub (?:mod (\w+);|use (\w+)::)", line)
+        below = opened and os.path.join(inner, (opened.group(1) or opened.group(2)) + ".rt")
+        if opened and (opened.group(1) or os.path.exists(below)):
+            yield from reached(below)
 
 
 def functions(lines):

@@ -33,7 +33,3 @@ and_first a b e = rw e
 pub and_second : (a b : Bool) → b ≡ false → a && b ≡ false
 and_second true b e = e
 and_second false b e = refl
-
--- past a test that holds the other decides
-pub true-and : (a b : Bool) → a ≡ true → b ≡ a && b
-true-and a b e = rw e

@@ -1,4 +1,5 @@
 -- The laws that every later proof leans on.
+pub mod ChunkLaws
 pub mod BoolLaws
 pub mod Difference
 pub mod IntLaws
@@ -6,7 +7,6 @@ pub mod Polynomial
 pub mod Ring
 pub mod Certificate
 pub mod Machine
-pub mod Turned
 pub mod ErrorNeeds
 pub mod Error
 pub mod SameValue

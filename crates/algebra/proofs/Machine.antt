@@ -3,7 +3,7 @@
 -- A stored i64 shows as `to_z w64 (of_z w64 x)` at every turn. `Va x z n` says that the machine term x is the plain number z,
 -- and that z is at most n in size. Where n is a numeral, each range is closed by `lit< tt`. A chain starts from a parameter
 -- (`given`), a literal (`lit`) or a natural (`of_u`), goes on by `v+ v- v* vneg` and `at`, one `at` for each store, and
--- answers a need by `fit` (the result fits), `to_u` (a cast to u64) or `told` (the equation).
+-- answers a need by `fit` (the result fits) or `told` (the equation).
 use mathlib.Core.Path.{◌≡◌, refl, sym, ap, ap₂, ◌∙◌, subst, subst⁻¹}
 use mathlib.Core.Bool.{Bool, true, false}
 use Prim.Native.Nat.{ℕ, suc, ◌+◌, ◌*◌, ◌^◌, ◌≤◌, ◌<◌}
@@ -11,9 +11,9 @@ use native.Mathlib.Nat.{le_refl, lt_of_le_of_lt, mul-le-mul, not-suc-le-zero}
 use native.Mathlib.Omega.{arith}
 use lib.Dec.{T, ltb→lt}
 use lib.IntN.{ℤ, pos, negsuc, neg_ℤ, nat_abs, ◌+ℤ◌, ◌-ℤ◌, ◌*ℤ◌, +ℤ_idl}
-use lib.Signed.{mag, non_neg, lt_z, ◌≤ℤ◌, ◌<ℤ◌, lt_z_no}
+use lib.Signed.{mag, lt_z, ◌≤ℤ◌, ◌<ℤ◌, lt_z_no}
 use mir.Syntax.{w64}
-use mir.Val.{Fits, SFits, to_z, of_z}
+use mir.Val.{SFits, to_z, of_z}
 use mir.Facts.{to_z-of_z, to_z_pos}
 use Rattle.algebra.proofs.IntLaws.{abs-+, abs--, abs-*, abs_neg}
 
@@ -99,13 +99,7 @@ vneg {x} {a} {n} v =
 pub fit : {x z : ℤ} {n : ℕ} → Va x z n → n < 2 ^ 63 → SFits w64 x
 fit v h = subst⁻¹ (λ (y : ℤ). SFits w64 y) v.told (sfits-abs v.small h)
 
--- a cast to u64 of a number that is not negative, and what it gives
-pub to_u : {x : ℤ} {m n : ℕ} → Va x (pos m) n → n < 2 ^ 64 → T (non_neg x) × Fits w64 (nat_abs x)
-to_u {x} {m} v h = (
-  subst⁻¹ (λ (y : ℤ). T (non_neg y)) v.told tt,
-  subst⁻¹ (λ (y : ℤ). Fits w64 (nat_abs y)) v.told (record { fits = lt_of_le_of_lt v.small h }),
-)
-
+-- the size of a number that is not negative
 pub told_U : {x : ℤ} {m n : ℕ} → Va x (pos m) n → nat_abs x ≡ m
 told_U v = ap nat_abs v.told
 

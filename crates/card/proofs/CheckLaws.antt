@@ -1,5 +1,5 @@
 -- What a card that passed its checks is: each check by itself, and how large each number can be; and the sizes of what the calls add.
-use mathlib.Core.Path.{◌≡◌, refl, sym, ap, ◌∙◌}
+use mathlib.Core.Path.{◌≡◌, refl, ap, sym, ◌∙◌}
 use mathlib.Core.Bool.{Bool, true}
 use Prim.Native.Nat.{◌≤◌}
 use native.Mathlib.Omega.{arith}
@@ -8,10 +8,14 @@ use lib.Dec.{eqb, lit<}
 use lib.IntN.{ℤ, pos, nat_abs, ◌-ℤ◌, ◌*ℤ◌}
 use Rattle.algebra.proofs.BoolLaws.{holds, passes}
 use Rattle.algebra.proofs.IntLaws.{apart, abs-*}
+use Rattle.std.specs.Prelude.{Result, Ok, Err}
+use Rattle.refusal.specs.declared.Refusal.{Refusal}
+use Rattle.refusal.specs.Answered.{number_of, answered}
+use Rattle.refusal.proofs.AnsweredLaws.{some, only}
 use Rattle.refusal.specs.Refusal.{first}
 use Rattle.refusal.proofs.RefusalLaws.{positive, NoneHolds, accepted}
 use Rattle.mark.specs.declared.Vec3.{Vec3}
-use Rattle.mark.specs.Mark.{marked, minus, scaled}
+use Rattle.mark.specs.Mark.{nowhere, marked, minus, scaled}
 use Rattle.mark.specs.Ranges.{Within}
 use Rattle.mark.proofs.MarkLaws.{accepted-within}
 use Rattle.mark.proofs.SizeLaws.{sized-is}
@@ -19,7 +23,8 @@ use Rattle.frames.specs.Frame.{known_frame}
 use Rattle.head.specs.Head.{site_shape, epoch_fits}
 use Rattle.head.proofs.HeadLaws.{epoch-small}
 use Rattle.card.specs.declared.Card.{Card}
-use Rattle.card.specs.declared.Offset.{Offset}
+use Rattle.card.specs.declared.Answer.{Answer}
+use Rattle.card.specs.Zero.{answer_of}
 use Rattle.card.specs.Checks.{tide_fits, velocity_fits, from_mark, position_fits, vector_fits, checks, card_number, Valid, offset_answer}
 
 -- ---- a card that passed its checks
@@ -124,11 +129,21 @@ valid-small c v = passed-small c (valid-passed c v)
 
 -- ---- where a card stands from its mark
 
-module _ (c : Card) (o : Offset) (e : o ≡ offset_answer c) where
-  pub offset-number : o.number ≡ card_number c
-  unfolding offset_answer
-  offset-number = ap (λ (x : Offset). x.number) e
+pub offset-refused : (c : Card) (e : Refusal) → answered nowhere (Err e) ≡ offset_answer c → number_of e ≡ card_number c
+unfolding offset_answer
+offset-refused c e q = ap (λ x. x.number) q
 
-  pub offset-grains : o.number ≡ 0 → o.grains ≡ from_mark c.mark c.position
-  unfolding offset_answer
-  offset-grains h = ap (λ (x : Offset). x.grains) e ∙ rw (sym offset-number ∙ h)
+pub offset-taken : (c : Card) (v : Vec3) → answered nowhere (Ok v) ≡ offset_answer c → (0 ≡ card_number c) × (v ≡ from_mark c.mark c.position)
+unfolding offset_answer
+offset-taken c v q =
+    let n : 0 ≡ card_number c = ap (λ x. x.number) q in
+    (n, ap (λ x. x.value) q ∙ rw (sym n) refl)
+
+-- ---- a read, as the paper answers it
+
+-- two reads that are told alike are the same
+pub read-same : (r s : Result Card Refusal) → answer_of r ≡ answer_of s → r ≡ s
+read-same (Ok a) (Ok b) h = ap Ok (ap (λ (x : Answer). x.card) h)
+read-same (Ok a) (Err e) h = absurd (some e (sym (ap (λ (x : Answer). x.number) h)))
+read-same (Err d) (Ok b) h = absurd (some d (ap (λ (x : Answer). x.number) h))
+read-same (Err d) (Err e) h = ap Err (only d e (ap (λ (x : Answer). x.number) h))

@@ -1,15 +1,19 @@
 -- What each call answers, case by case: the laws behind the private steps and the six calls.
 use mathlib.Core.Path.{◌≡◌, refl, sym, ap, ◌∙◌, subst, subst⁻¹}
-use mathlib.Core.Bool.{Bool, true, false, not, ◌&&◌, cond}
-use mathlib.Core.List.{◌++◌}
-use Prim.Native.Nat.{ℕ, zero, suc, ◌+◌, ◌≤◌, ◌<◌}
+use mathlib.Core.Bool.{Bool, true, false, ◌&&◌, cond}
+use mathlib.Core.List.{[], ◌++◌}
+use Prim.Native.Nat.{ℕ, ◌+◌, ◌≤◌, ◌<◌}
 use native.Mathlib.Omega.{arith}
 use borrow.Author.Tests.{lt-leb, eq-eqb, ne_eqb, not-false}
+use Rattle.std.specs.Prelude.{Ok}
 use lib.Dec.{T, lit<, lit≤, eqb}
 use lib.IntN.{ℤ, nat_abs, ◌+ℤ◌}
 use Rattle.algebra.proofs.BoolLaws.{both}
 use Rattle.algebra.proofs.Difference.{split, ℤ⊖}
-use Rattle.refusal.specs.Refusal.{first, choose}
+use Rattle.refusal.specs.Refusal.{Table, first}
+use Rattle.refusal.specs.declared.Refusal.{Refusal}
+use Rattle.refusal.specs.Answered.{number_of, answered}
+use Rattle.refusal.proofs.AnsweredLaws.{some}
 use Rattle.refusal.proofs.RefusalLaws.{positive, accepted, stays, onward}
 use Rattle.mark.specs.declared.Vec3.{Vec3}
 use Rattle.mark.specs.Mark.{nowhere, marked, plus, minus, scaled, sized}
@@ -18,20 +22,19 @@ use Rattle.mark.proofs.LengthLaws.{widen}
 use Rattle.mark.proofs.SizeLaws.{within-sized}
 use Rattle.frames.specs.Frame.{known_frame, frame_shift, frame_gain}
 use Rattle.tides.specs.declared.Body.{Body}
-use Rattle.tides.specs.declared.Shift.{Shift}
-use Rattle.tides.specs.Permanent.{permanent, permanent_answer}
+use Rattle.tides.specs.Permanent.{permanent}
 use Rattle.tides.specs.Bodies.{moon, sun, in_reach, moon_of, sun_of}
 use Rattle.tides.specs.Tide.{tide, tide_number, tide_answer, pair_checks}
-use Rattle.tides.proofs.PermanentLaws.{permanent-within, shift_is}
+use Rattle.tides.proofs.PermanentLaws.{permanent-within}
 use Rattle.tides.proofs.TideLaws.{tide-within}
 use Rattle.head.specs.State.{state_of, with_state}
 use Rattle.head.specs.Head.{epoch_fits}
 use Rattle.card.specs.declared.Card.{Card}
 use Rattle.card.specs.declared.Answer.{Answer}
 use Rattle.card.specs.Checks.{tide_fits, velocity_fits, position_fits, checks, card_number, Valid}
-use Rattle.card.specs.Calls.{Call, move, frame, mean_on, mean_off, solid_on, solid_off, with_position, moved, reframed, next, near_mark, own, call_number, settle, step}
+use Rattle.card.specs.Calls.{Call, move, frame, mean_on, mean_off, solid_on, solid_off, with_position, moved, reframed, next, near_mark, tide_checks, own, call_number, settle, step}
 use Rattle.card.specs.Steps.{after, retided}
-use Rattle.card.proofs.CheckLaws.{positive-checks, number-valid, valid-passed, valid-small}
+use Rattle.card.proofs.CheckLaws.{positive-checks, valid-small}
 
 abbrev pub answer : ℕ → Card → Answer
 answer n c = record { number = n; card = c }
@@ -39,31 +42,25 @@ answer n c = record { number = n; card = c }
 some_of : (n : ℕ) → (n ≡ 0 → ⊥) → 0 < n
 some_of n h = omega arith
 
--- ---- the step of a tide call: 12, what it asks besides, 8
+-- ---- a tide call: 12, what it asks besides, 8
 
-module _ (c : Card) (from to : ℕ) (p v : Vec3) where
-  pub retided-state : (number : ℕ) → (state_of c.tide ≡ from → ⊥) → answer 12 c ≡ retided c from to number p v
+module _ (c n : Card) (from : ℕ) (besides : Table) where
+  pub other-state : eqb (state_of c.tide) from ≡ false → answer 12 c ≡ settle (first (tide_checks from besides c n)) c n
+  unfolding settle first
+  other-state h = rw h
+
+  pub same-state : eqb (state_of c.tide) from ≡ true → settle (first (besides ++ near_mark n)) c n ≡ settle (first (tide_checks from besides c n)) c n
+  unfolding first
+  same-state h = rw h
+
+module _ (c : Card) (to : ℕ) (p v : Vec3) where
+  pub retided-far : position_fits c.mark p ≡ false → answer 8 c ≡ retided c to p v
   unfolding retided settle first
-  retided-state number h = rw (ne_eqb (state_of c.tide) from h)
+  retided-far e = rw e
 
-  retided-kept : (number : ℕ) → (number ≡ 0 → ⊥)
-      → retided c from to number p v ≡ settle (choose (not (eqb (state_of c.tide) from)) 12 number) c (with_position c (with_state c.tide to) p v)
-  unfolding retided first
-  retided-kept number n = rw (ne_eqb number 0 n)
-
-  module _ (h : state_of c.tide ≡ from) where
-    pub retided-besides : (number : ℕ) → (number ≡ 0 → ⊥) → answer number c ≡ retided c from to number p v
-    unfolding retided settle first
-    retided-besides number n = rw (eq-eqb (state_of c.tide) from h, ne_eqb number 0 n, ne_eqb number 0 n)
-
-    pub retided-far : (number : ℕ) → number ≡ 0 → position_fits c.mark p ≡ false → answer 8 c ≡ retided c from to number p v
-    unfolding retided settle first
-    retided-far number n e = rw (eq-eqb (state_of c.tide) from h, n, e)
-
-    pub retided-near : (number byte : ℕ) (t : ℤ) → number ≡ 0 → position_fits c.mark p ≡ true → byte ≡ with_state c.tide to → t ≡ c.epoch
-        → answer 0 (record { site = c.site; frame = c.frame; tide = byte; epoch = t; mark = c.mark; velocity = c.velocity; position = p; solid = v }) ≡ retided c from to number p v
-    unfolding retided settle first
-    retided-near number byte t n e b q = rw (eq-eqb (state_of c.tide) from h, n, e, b, q)
+  pub retided-near : position_fits c.mark p ≡ true → answer 0 (with_position c (with_state c.tide to) p v) ≡ retided c to p v
+  unfolding retided settle first
+  retided-near e = rw e
 
 -- ---- move: 13, 5, 8
 
@@ -133,28 +130,36 @@ module _ (c : Card) (v : Valid c) where
   pub addable : {w : Vec3} → Within 1461000000 w → T (sized 4000000000000000000 c.position) × T (sized 4000000000000000000 w)
   addable h = (within-sized (widen (valid-small c v).position (lit≤ tt)), within-sized (widen h (lit≤ tt)))
 
--- ---- mean on, mean off: 12, 8. The permanent shift s as it came back, and the position p after it
+  -- the permanent shift can be
+  pub mean-addable : {w : Vec3} → w ≡ permanent c.mark → T (sized 4000000000000000000 c.position) × T (sized 4000000000000000000 w)
+  mean-addable e = addable (subst⁻¹ (λ (u : Vec3). Within 1461000000 u) e (widen (permanent-within c.mark) (lit≤ tt)))
 
-module _ (c : Card) (v : Valid c) (s : Shift) (q : s ≡ permanent_answer c.mark) where
-  is : s.shift ≡ permanent c.mark
-  is = shift_is c.mark s (valid-passed c v).mark q
+-- ---- mean on, mean off, solid off: 12, 8
 
-  pub mean-small : Within 1461000000 s.shift
-  mean-small = subst⁻¹ (λ (w : Vec3). Within 1461000000 w) is (widen (permanent-within c.mark) (lit≤ tt))
+module _ (c : Card) where
+  pub mean-on-is : (p : Vec3) → p ≡ plus c.position (permanent c.mark) → eqb (state_of c.tide) 0 ≡ true → retided c 1 p c.solid ≡ after c mean_on
+  unfolding after own next retided
+  mean-on-is p e h = rw e (same-state c _ 0 [] h)
 
-  pub mean-on-is : (p : Vec3) → p ≡ plus c.position s.shift → retided c 0 1 0 p c.solid ≡ after c mean_on
-  unfolding after own next retided first
-  mean-on-is p e = rw (e, is)
+  pub mean-off-is : (p : Vec3) → p ≡ minus c.position (permanent c.mark) → eqb (state_of c.tide) 1 ≡ true → retided c 0 p c.solid ≡ after c mean_off
+  unfolding after own next retided
+  mean-off-is p e h = rw e (same-state c _ 1 [] h)
 
-  pub mean-off-is : (p : Vec3) → p ≡ minus c.position s.shift → retided c 1 0 0 p c.solid ≡ after c mean_off
-  unfolding after own next retided first
-  mean-off-is p e = rw (e, is)
+  pub solid-off-is : (p : Vec3) → p ≡ minus c.position c.solid → eqb (state_of c.tide) 2 ≡ true → retided c 0 p nowhere ≡ after c solid_off
+  unfolding after own next retided
+  solid-off-is p e h = rw e (same-state c _ 2 [] h)
 
--- ---- solid off: 12, 8
+  pub mean-on-other : eqb (state_of c.tide) 0 ≡ false → answer 12 c ≡ after c mean_on
+  unfolding after own
+  mean-on-other h = other-state c _ 0 [] h
 
-pub solid-off-is : (c : Card) (p : Vec3) → p ≡ minus c.position c.solid → retided c 2 0 0 p nowhere ≡ after c solid_off
-unfolding after own next retided first
-solid-off-is c p e = rw e
+  pub mean-off-other : eqb (state_of c.tide) 1 ≡ false → answer 12 c ≡ after c mean_off
+  unfolding after own
+  mean-off-other h = other-state c _ 1 [] h
+
+  pub solid-off-other : eqb (state_of c.tide) 2 ≡ false → answer 12 c ≡ after c solid_off
+  unfolding after own
+  solid-off-other h = other-state c _ 2 [] h
 
 -- ---- solid on: 12, 17, 10, 11, 8
 
@@ -162,81 +167,51 @@ tide-number : (m : Vec3) (a b : Body) → marked m ≡ true → tide_number m a 
 unfolding tide_number first
 tide-number m a b e = rw e
 
--- a refused call's card is the one that was handed in
-refused-alike : (n : ℕ) (c m m' : Card) → (n ≡ 0 → ⊥) → settle n c m ≡ settle n c m'
-unfolding settle
-refused-alike n c m m' h = rw (ne_eqb n 0 h)
-
-twelve-or : (t : Bool) (n : ℕ) → (n ≡ 0 → ⊥) → choose t 12 n ≡ 0 → ⊥
-twelve-or true n h e = absurd (omega (arith, e))
-twelve-or false n h e = h e
-
-module _ (c : Card) (a b : Body) (s : Shift) (e : marked c.mark ≡ true) (q : s ≡ tide_answer c.mark a b) where
+module _ (c : Card) (a b : Body) where
   abbrev there : Card
   there = next c (solid_on a b)
 
-  bodies-number : s.number ≡ first (pair_checks a b)
-  unfolding tide_answer
-  bodies-number = rw q (tide-number c.mark a b e)
+  pub solid-on-other : eqb (state_of c.tide) 0 ≡ false → answer 12 c ≡ after c (solid_on a b)
+  unfolding after own
+  solid-on-other h = other-state c there 0 (pair_checks a b) h
 
-  module _ (n : s.number ≡ 0) where
-    none : first (pair_checks a b) ≡ 0
-    none = sym bodies-number ∙ n
+  module _ (h : eqb (state_of c.tide) 0 ≡ true) (e : marked c.mark ≡ true) where
+    rest : settle (first (pair_checks a b ++ near_mark there)) c there ≡ after c (solid_on a b)
+    unfolding after own
+    rest = same-state c there 0 (pair_checks a b) h
 
-    reach : in_reach moon (moon_of a b) && in_reach sun (sun_of a b) ≡ true
-    unfolding positive
-    reach = not-false (in_reach moon (moon_of a b) && in_reach sun (sun_of a b)) ((accepted (pair_checks a b) refl).0 none 2 (lit< tt))
+    -- the bodies' refusal
+    pub solid-on-refused : (d : Refusal) → number_of d ≡ tide_number c.mark a b → answer (number_of d) c ≡ after c (solid_on a b)
+    unfolding positive settle
+    solid-on-refused d q =
+        let k : number_of d ≡ first (pair_checks a b) = q ∙ tide-number c.mark a b e in
+        let some_more : 0 < first (pair_checks a b) = subst (λ (x : ℕ). 0 < x) k (some_of (number_of d) (some d)) in
+        let s : first (pair_checks a b ++ near_mark there) ≡ number_of d = stays (pair_checks a b) (near_mark there) some_more ∙ sym k in
+        rw (← rest, s, ne_eqb (number_of d) 0 (some d))
 
-    tide-is : s.shift ≡ tide c.mark (moon_of a b) (sun_of a b)
-    unfolding tide_answer
-    tide-is = rw (q, tide-number c.mark a b e, none)
+    module _ (v : Vec3) (q : answered nowhere (Ok v) ≡ tide_answer c.mark a b) where
+      none : first (pair_checks a b) ≡ 0
+      unfolding tide_answer
+      none = sym (tide-number c.mark a b e) ∙ sym (ap (λ x. x.number) q)
 
-    shift-within : Within 1461000000 s.shift
-    shift-within =
-        let r = both (in_reach moon (moon_of a b)) (in_reach sun (sun_of a b)) reach in
-        subst⁻¹ (λ (v : Vec3). Within 1461000000 v) tide-is (tide-within c.mark (moon_of a b) (sun_of a b) e r.0 r.1)
+      reach : in_reach moon (moon_of a b) && in_reach sun (sun_of a b) ≡ true
+      unfolding positive
+      reach = not-false (in_reach moon (moon_of a b) && in_reach sun (sun_of a b)) ((accepted (pair_checks a b) refl).0 none 2 (lit< tt))
 
-  shift_none : (n : ℕ) → s.number ≡ suc n → s.shift ≡ nowhere
-  unfolding tide_answer
-  shift_none n k = let t : tide_number c.mark a b ≡ suc n = sym (ap (λ (x : Shift). x.number) q) ∙ k in
-      rw (q, t, ne_eqb (suc n) 0 (λ z. absurd (omega (arith, z))))
+      tide-is : v ≡ tide c.mark (moon_of a b) (sun_of a b)
+      unfolding tide_answer
+      tide-is = ap (λ x. x.value) q ∙ rw (tide-number c.mark a b e, none)
 
-  small_at : (n : ℕ) → s.number ≡ n → Within 1461000000 s.shift
-  small_at zero k = shift-within k
-  small_at (suc n) k = subst⁻¹ (λ (v : Vec3). Within 1461000000 v) (shift_none n k) (record { x = lit≤ tt; y = lit≤ tt; z = lit≤ tt })
+      pub tide-small : Within 1461000000 v
+      tide-small =
+          let r = both (in_reach moon (moon_of a b)) (in_reach sun (sun_of a b)) reach in
+          subst⁻¹ (λ (w : Vec3). Within 1461000000 w) tide-is (tide-within c.mark (moon_of a b) (sun_of a b) e r.0 r.1)
 
-  -- refused or not
-  pub tide-small : Within 1461000000 s.shift
-  tide-small = small_at s.number refl
-
-  -- the call's card and checks, by its first check and the rest
-  fold : settle (choose (not (eqb (state_of c.tide) 0)) 12 (first (pair_checks a b ++ near_mark there))) c there ≡ after c (solid_on a b)
-  unfolding after own next first
-  fold = refl
-
-  rest : (m : ℕ) → first (pair_checks a b ++ near_mark there) ≡ m
-      → settle (choose (not (eqb (state_of c.tide) 0)) 12 m) c there ≡ after c (solid_on a b)
-  rest m k = ap (λ (x : ℕ). settle (choose (not (eqb (state_of c.tide) 0)) 12 x) c there) (sym k) ∙ fold
-
-  taken : retided c 0 2 0 (plus c.position (tide c.mark (moon_of a b) (sun_of a b))) (tide c.mark (moon_of a b) (sun_of a b))
-      ≡ settle (choose (not (eqb (state_of c.tide) 0)) 12 (first (near_mark there))) c there
-  unfolding retided next first plus
-  taken = refl
-
-  solid-at : (n : ℕ) → s.number ≡ n → retided c 0 2 n (plus c.position s.shift) s.shift ≡ after c (solid_on a b)
-  unfolding positive
-  solid-at zero k =
-      ap (λ (v : Vec3). retided c 0 2 0 (plus c.position v) v) (tide-is k) ∙ taken
-      ∙ rest (first (near_mark there)) (onward (pair_checks a b) (near_mark there) refl (none k))
-  solid-at (suc n) k =
-      let some : 0 < first (pair_checks a b) = subst (λ (x : ℕ). 0 < x) bodies-number (omega (arith, k)) in
-      let some_more : suc n ≡ 0 → ⊥ = λ z. omega (arith, z) in
-      retided-kept c 0 2 (plus c.position s.shift) s.shift (suc n) some_more
-      ∙ refused-alike (choose (not (eqb (state_of c.tide) 0)) 12 (suc n)) c _ there (twelve-or (not (eqb (state_of c.tide) 0)) (suc n) some_more)
-      ∙ rest (suc n) (stays (pair_checks a b) (near_mark there) some ∙ sym bodies-number ∙ k)
-
-  pub solid-on-is : retided c 0 2 s.number (plus c.position s.shift) s.shift ≡ after c (solid_on a b)
-  solid-on-is = solid-at s.number refl
+      pub solid-on-is : retided c 2 (plus c.position v) v ≡ after c (solid_on a b)
+      unfolding retided next positive
+      solid-on-is =
+          let o : first (pair_checks a b ++ near_mark there) ≡ first (near_mark there) = onward (pair_checks a b) (near_mark there) refl none in
+          rw (← rest, o, tide-is)
 
 -- ---- the six calls: the card's number where it is not 0, else the call's own
 
@@ -247,25 +222,24 @@ zeros-true z c e =
     let none = (accepted (checks z c) refl).0 e in
     (both z (tide_fits c.tide c.solid) (not-false (z && tide_fits c.tide c.solid) (none 2 (lit< tt)))).0
 
-module _ (c : Card) (k : Call) (n : ℕ) (q : n ≡ first (checks true c)) where
-  pub step-refused : (n ≡ 0 → ⊥) → answer n c ≡ step c k
-  unfolding step call_number settle
-  step-refused h =
-      let some : 0 < first (checks true c) = subst (λ (x : ℕ). 0 < x) q (some_of n h) in
-      let same : first (checks true c ++ own c (next c k) k) ≡ n = stays (checks true c) (own c (next c k) k) some ∙ sym q in
-      rw (same, ne_eqb n 0 h)
+module _ (c : Card) where
+  pub check-refused : (k : Call) (e : Refusal) → number_of e ≡ card_number c → answer (number_of e) c ≡ step c k
+  unfolding step call_number card_number settle
+  check-refused k e q =
+      let some_more : 0 < first (checks true c) = subst (λ (x : ℕ). 0 < x) q (some_of (number_of e) (some e)) in
+      let same : first (checks true c ++ own c (next c k) k) ≡ number_of e = stays (checks true c) (own c (next c k) k) some_more ∙ sym q in
+      rw (same, ne_eqb (number_of e) 0 (some e))
 
-  pub step-accepted : n ≡ 0 → after c k ≡ step c k
-  unfolding step call_number after
-  step-accepted h = ap (λ (x : ℕ). settle x c (next c k)) (sym (onward (checks true c) (own c (next c k) k) (positive-checks true c) (sym q ∙ h)))
+  pub check-passed : (k : Call) → 0 ≡ card_number c → after c k ≡ step c k
+  unfolding step call_number card_number after
+  check-passed k h = ap (λ (x : ℕ). settle x c (next c k)) (sym (onward (checks true c) (own c (next c k) k) (positive-checks true c) (sym h)))
+
+-- ---- other uses of a card's number
 
 -- what the card's own number says
 pub number_is : (c : Card) (n : ℕ) → n ≡ first (checks true c) → n ≡ card_number c
 unfolding card_number
 number_is c n q = q
-
-pub number-passes : (c : Card) (n : ℕ) → n ≡ first (checks true c) → n ≡ 0 → Valid c
-number-passes c n q h = number-valid c (sym (number_is c n q) ∙ h)
 
 -- an answer by its number
 pub settled : (n : ℕ) (a b : Card) → (n ≡ 0 → ⊥) → answer n b ≡ answer n (cond (eqb n 0) a b)

@@ -1,6 +1,7 @@
 -- A card's checks 2 to 9, in the paper's order. A card is accepted where none is met.
 use Rattle.std.specs.Prelude.{Bool, true, not, cond, ◌&&◌, ◌||◌, [], ◌∷◌, ◌++◌, ℕ, ◌*◌, T, eqb, pos}
 use Rattle.refusal.specs.Refusal.{Table, first}
+use Rattle.refusal.specs.Answered.{Answered}
 use Rattle.mark.specs.declared.Vec3.{Vec3}
 use Rattle.mark.specs.Mark.{nowhere, sized}
 pub use Rattle.mark.specs.Mark.{metre}
@@ -8,7 +9,6 @@ unfoldable pub use Rattle.mark.specs.Mark.{minus, scaled}
 use Rattle.head.specs.State.{state_of, state_fits}
 use Rattle.head.specs.Head.{head_checks}
 use Rattle.card.specs.declared.Card.{Card}
-use Rattle.card.specs.declared.Offset.{Offset}
 
 unfoldable pub is_zero : Vec3 → Bool
 is_zero v = sized 0 v
@@ -55,5 +55,5 @@ unfoldable pub Valid : Card → Type 0
 Valid c = T (eqb (card_number c) 0)
 
 -- where a card stands from its mark, grains; a refusal comes with zeros
-unfoldable pub offset_answer : Card → Offset
-offset_answer c = record { number = card_number c; grains = cond (eqb (card_number c) 0) (from_mark c.mark c.position) nowhere }
+unfoldable pub offset_answer : Card → Answered Vec3
+offset_answer c = record { number = card_number c; value = cond (eqb (card_number c) 0) (from_mark c.mark c.position) nowhere }

@@ -1,5 +1,6 @@
 // A card's checks beside those of `head`, one by one, and all of them in the paper's order.
-ghost use Rattle.std.specs.Prelude.{◌≡◌, not, ◌&&◌, [], ◌∷◌, T};
+ghost use Rattle.std.specs.Prelude.{◌≡◌, ◌&&◌, T};
+ghost use Rattle.refusal.specs.Answered as A;
 ghost use Rattle.refusal.specs.Refusal as R;
 ghost use Rattle.mark.specs.Mark as M;
 ghost use Rattle.card.specs.Checks as K;
@@ -7,10 +8,8 @@ ghost use Rattle.card.specs.Checks as K;
 use crate::Card;
 use head::check_head;
 use head::state::state_of;
-use mark::{Vec3, sized};
-
-// Grains in a metre.
-const METRE: i64 = 1461000000;
+use mark::{METRE, Vec3, sized};
+use refusal::Refusal;
 
 // The farthest that a position lies from its mark, and the most of a stored tide, a component: grains.
 const FARTHEST: u64 = 1461000000000;
@@ -21,16 +20,11 @@ const TIDE_MOST: u64 = 1461000000;
 pub const VELOCITY_MOST: u64 = 500000;
 
 // Byte 10 is 0, 1 or 2, and the stored vector is zero unless it is 2.
+#[tactic(auto, unfolding(crate::specs::Checks::tide_fits, crate::specs::Checks::is_zero, head::specs::State::state_fits))]
 pub fn tide_fits(byte: u8, v: Vec3) -> bool
     ensures { result ≡ K.tide_fits byte v }
 {
-    if 2 < byte {
-        return false;
-    }
-    if state_of(byte) == 2 {
-        return true;
-    }
-    sized(v, 0)
+    byte <= 2 && (state_of(byte) == 2 || sized(v, 0))
 }
 
 // Grains from the mark: p - 1,461,000,000 m.
@@ -51,47 +45,30 @@ pub fn position_fits(m: Vec3, p: Vec3) -> bool
     requires { T (M.sized 6400000 m) }
     ensures { result ≡ K.position_fits m p }
 {
-    if !sized(p, 10000000000000000) {
-        return false;
-    }
-    sized(from_mark(m, p), FARTHEST)
+    sized(p, 10000000000000000) && sized(from_mark(m, p), FARTHEST)
 }
 
 // Byte 10 and the stored vector fit, and so do the record's zero bytes.
 pub fn fourth_fits(zeros: bool, byte: u8, v: Vec3) -> bool
     ensures { result ≡ (zeros && K.tide_fits byte v) }
 {
-    if !zeros {
-        return false;
-    }
-    tide_fits(byte, v)
+    zeros && tide_fits(byte, v)
 }
 
-// The refusals 2 to 9 of a card, or 0. `zeros` says that the record's zero bytes are zero.
-pub fn refusal_of(c: Card, zeros: bool) -> u32
-    ensures { result ≡ R.first (K.checks zeros c) }
+// The refusals 2 to 9 of a card. `zeros` says that the record's zero bytes are zero.
+pub fn refusal_of(c: Card, zeros: bool) -> Result<(), Refusal>
+    ensures { A.number result ≡ R.first (K.checks zeros c) }
 {
-    let site = c.site;
     let fits = fourth_fits(zeros, c.tide, c.solid);
-    let number = check_head(site, c.frame, fits, c.epoch, c.mark);
-    if number != 0 {
-        return number;
-    }
+    check_head(c.site, c.frame, fits, c.epoch, c.mark)?;
     if !sized(c.velocity, VELOCITY_MOST) {
-        return 7;
+        return Err(Refusal::Velocity);
     }
     if !position_fits(c.mark, c.position) {
-        return 8;
+        return Err(Refusal::Position);
     }
-    stored_refusal(c.solid)
-}
-
-// From 9 on: what is stored.
-pub fn stored_refusal(solid: Vec3) -> u32
-    ensures { result ≡ R.first ((9, not (K.vector_fits solid)) ∷ []) }
-{
-    if !sized(solid, TIDE_MOST) {
-        return 9;
+    if !sized(c.solid, TIDE_MOST) {
+        return Err(Refusal::StoredTide);
     }
-    0
+    Ok(())
 }

@@ -1,6 +1,6 @@
 -- The reader's steps: the parts of the catalogue read in order, a short last one as 1, then done for ever. Assumes nothing.
-use mathlib.Core.Path.{◌≡◌, refl, ap, ap₂, ◌∙◌}
-use mathlib.Core.Bool.{Bool, true, false}
+use mathlib.Core.Path.{◌≡◌, refl, sym, ap, ap₂, ◌∙◌}
+use mathlib.Core.Bool.{Bool, true, false, true≢false}
 use mathlib.Core.List.{List, [], ◌∷◌, ◌++◌, map}
 use Prim.Native.Nat.{ℕ, zero, suc, ◌+◌, ◌-◌, ◌*◌, ◌≤◌, ◌<◌}
 use native.Mathlib.Omega.{arith}
@@ -8,14 +8,18 @@ use borrow.Author.Tests.{le-leb, lt-leb, lt-ltb, le-ltb, ltb-true, ltb-false}
 use denote.Ref.{Bor}
 use lib.Dec.{ltb}
 use lib.ListN.{length, take, drop, replicate, length-take, length-drop}
+use Rattle.std.specs.Prelude.{Result, Ok, Err, Option, Some, None}
+use Rattle.refusal.specs.declared.Refusal.{Refusal}
+use Rattle.refusal.proofs.AnsweredLaws.{some, only}
+use Rattle.card.specs.declared.Card.{Card}
 use Rattle.card.specs.declared.Answer.{Answer}
 use Rattle.card.specs.Zero.{zero_card}
 use Rattle.codec.specs.Codec.{read_card, card_length}
 use Rattle.codec.specs.Parts.{parts_from, part_count, parts}
 use Rattle.codec.proofs.AnswerLaws.{read_short}
-use Rattle.catalogue.specs.declared.Taken.{Taken}
+use Rattle.catalogue.specs.declared.Taken as declared
 use Rattle.catalogue.specs.declared.Reader.{Reader}
-use Rattle.catalogue.specs.Reader.{ended, stepped, taken_at, Seen, seen, answers, read_seen, done_seen, Reads, told}
+use Rattle.catalogue.specs.Reader.{Taken, ended, stepped, shown_at, shown, taken_at, Seen, seen, answers, read_seen, done_seen, Reads, told}
 
 -- ---- the three outcomes of a step
 
@@ -32,6 +36,38 @@ pub taken-whole : (s : List ℕ) (at : ℕ) → at < length s → card_length �
     → taken_at s at ≡ stepped (read_card (take card_length (drop at s))) (at + card_length)
 unfolding taken_at
 taken-whole s at h k = rw (lt-leb (length s) at h, le-ltb (length s - at) card_length k)
+
+-- the place that an answered step leaves
+pub next-place : (t : declared.Taken) → t.next ≡ (shown t).next
+unfolding ended stepped
+next-place t = at t.found t.next
+  where
+    at : (f : Result (Option Card) Refusal) (n : ℕ) → n ≡ (shown_at f n).next
+    at (Ok (Some c)) n = refl
+    at (Ok None) n = refl
+    at (Err e) n = refl
+
+-- two answered steps that are told alike are the same
+pub taken-same : (t u : declared.Taken) → shown t ≡ shown u → t ≡ u
+unfolding ended stepped
+taken-same t u h = λ i. record { found = found t.found u.found h' i; next = place i }
+  where
+    place : t.next ≡ u.next
+    place = next-place t ∙ ap (λ (x : Taken). x.next) h ∙ sym (next-place u)
+
+    h' : shown_at t.found t.next ≡ shown_at u.found u.next
+    h' = h
+
+    found : (f g : Result (Option Card) Refusal) → shown_at f t.next ≡ shown_at g u.next → f ≡ g
+    found (Ok (Some a)) (Ok (Some b)) k = ap (λ (c : Card). Ok (Some c)) (ap (λ (x : Taken). x.card) k)
+    found (Ok (Some a)) (Ok None) k = absurd (true≢false (sym (ap (λ (x : Taken). x.done) k)))
+    found (Ok (Some a)) (Err e) k = absurd (some e (sym (ap (λ (x : Taken). x.number) k)))
+    found (Ok None) (Ok (Some b)) k = absurd (true≢false (ap (λ (x : Taken). x.done) k))
+    found (Ok None) (Ok None) k = refl
+    found (Ok None) (Err e) k = absurd (true≢false (ap (λ (x : Taken). x.done) k))
+    found (Err d) (Ok (Some b)) k = absurd (some d (ap (λ (x : Taken). x.number) k))
+    found (Err d) (Ok None) k = absurd (true≢false (sym (ap (λ (x : Taken). x.done) k)))
+    found (Err d) (Err e) k = ap Err (only d e (ap (λ (x : Taken). x.number) k))
 
 -- ---- the same as a caller sees them
 
@@ -112,7 +148,7 @@ any-answers s n =
 
 -- ---- a reader
 
-reads-answers : (r : Reader) (calls : List (Taken × Reader)) → Reads r calls → told calls ≡ answers r.src.now r.at (length calls)
+reads-answers : (r : Reader) (calls : List (declared.Taken × Reader)) → Reads r calls → told calls ≡ answers r.src.now r.at (length calls)
 unfolding Reads told answers
 reads-answers r [] h = refl
 reads-answers r (call ∷ calls) h =
@@ -123,7 +159,7 @@ reads-answers r (call ∷ calls) h =
 
 -- what a reader over the lent bytes s answers to any run of calls from its start: the first of the parts read in order, then done for ever
 pub reader-answers :
-    (s : Bor (List ℕ)) (r : Reader) (calls : List (Taken × Reader)) → r.src ≡ s → r.at ≡ 0 → Reads r calls
+    (s : Bor (List ℕ)) (r : Reader) (calls : List (declared.Taken × Reader)) → r.src ≡ s → r.at ≡ 0 → Reads r calls
     → told calls ≡ take (length calls) (map read_seen (parts s.now) ++ replicate (length calls) done_seen)
 reader-answers s r calls e a h =
     reads-answers r calls h

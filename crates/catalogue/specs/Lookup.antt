@@ -1,9 +1,9 @@
 -- Lookup: the first record of a catalogue whose first nine bytes are the key's. Records of a card's length, no header.
 use Rattle.std.specs.Prelude.{Bool, true, not, cond, ◌&&◌, List, [], ◌∷◌, ℕ, zero, suc, ◌+◌, ◌/◌, ◌%◌, eqb, ltb, length, get_or, take, drop}
 use Rattle.refusal.specs.Refusal.{first}
+use Rattle.refusal.specs.Answered.{Answered}
 use Rattle.head.specs.Head.{site_shape}
 use Rattle.codec.specs.Codec.{card_length}
-use Rattle.catalogue.specs.declared.Found.{Found}
 
 -- the k bytes from byte i on of the record at `at` are the key's
 unfoldable pub same_from : List ℕ → List ℕ → ℕ → ℕ → ℕ → Bool
@@ -39,5 +39,6 @@ find_part s key = cond (eqb (find_number s key) 0) (take card_length (drop (firs
 abbrev pub place_of : ℕ × ℕ → ℕ → ℕ × ℕ
 place_of p at = (p.0, at + p.1)
 
-unfoldable pub found : List ℕ → List ℕ → Found
-found s key = record { number = find_number s key; place = find_place s key }
+-- both, as a lookup answers them
+unfoldable pub found : List ℕ → List ℕ → Answered ℕ
+found s key = record { number = find_number s key; value = find_place s key }

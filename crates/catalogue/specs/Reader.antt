@@ -1,10 +1,20 @@
 -- The catalogue reader: one step from a place in the lent bytes, and what all the steps give.
-use Rattle.std.specs.Prelude.{◌≡◌, Bool, true, false, cond, List, [], ◌∷◌, ℕ, zero, suc, ◌+◌, ◌-◌, leb, ltb, length, take, drop}
+use Rattle.std.specs.Prelude.{◌≡◌, Bool, true, false, cond, List, [], ◌∷◌, ℕ, zero, suc, ◌+◌, ◌-◌, leb, ltb, length, take, drop, Result, Ok, Err, Option, Some, None}
+use Rattle.refusal.specs.declared.Refusal.{Refusal}
+use Rattle.refusal.specs.Answered.{number_of}
+use Rattle.card.specs.declared.Card.{Card}
 use Rattle.card.specs.declared.Answer.{Answer}
 use Rattle.card.specs.Zero.{zero_card, refused_with}
 use Rattle.codec.specs.Codec.{card_length, read_card}
-use Rattle.catalogue.specs.declared.Taken.{Taken}
+use Rattle.catalogue.specs.declared.Taken as declared
 use Rattle.catalogue.specs.declared.Reader.{Reader}
+
+-- one step, as the paper tells it: a number, whether nothing was left, the card, and the place of the next step in bytes
+pub record Taken : Type 0 where
+  pub number : ℕ
+  pub done : Bool
+  pub card : Card
+  pub next : ℕ
 
 -- what was read, whether nothing was left, and the place after it
 abbrev pub taken_with : Answer → Bool → ℕ → Taken
@@ -24,6 +34,15 @@ taken_at s at =
     cond (leb (length s) at) (ended at)
     (cond (ltb (length s - at) card_length) (stepped (refused_with 1) (length s))
     (stepped (read_card (take card_length (drop at s))) (at + card_length)))
+
+-- what an answered step says: refused or done, the card is all zeros
+abbrev pub shown_at : Result (Option Card) Refusal → ℕ → Taken
+shown_at (Ok (Some c)) next = stepped (record { number = 0; card = c }) next
+shown_at (Ok None) next = ended next
+shown_at (Err e) next = stepped (refused_with (number_of e)) next
+
+abbrev pub shown : declared.Taken → Taken
+shown t = shown_at t.found t.next
 
 -- ---- what all the steps give
 
@@ -49,13 +68,13 @@ done_seen = (true, record { number = 0; card = zero_card })
 -- ---- a reader
 
 -- a run of calls of `next` on reader r: what each answered and the reader that it left. Each link is the promise of one call.
-unfoldable pub Reads : Reader → List (Taken × Reader) → Type 0
+unfoldable pub Reads : Reader → List (declared.Taken × Reader) → Type 0
 Reads r [] = Unit {0}
 Reads r (call ∷ calls) =
-    (call.0 ≡ taken_at r.src.now r.at)
+    (shown call.0 ≡ taken_at r.src.now r.at)
     × ((call.1.src ≡ r.src) × ((call.1.at ≡ (taken_at r.src.now r.at).next) × Reads call.1 calls))
 
 -- what the calls answered
-unfoldable pub told : List (Taken × Reader) → List Seen
+unfoldable pub told : List (declared.Taken × Reader) → List Seen
 told [] = []
-told (call ∷ calls) = seen call.0 ∷ told calls
+told (call ∷ calls) = seen (shown call.0) ∷ told calls

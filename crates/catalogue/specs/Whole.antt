@@ -2,14 +2,10 @@
 use Rattle.std.specs.Prelude.{cond, List, ℕ, ◌*◌, ◌/◌, ◌%◌, eqb, length, take, drop}
 use Rattle.refusal.specs.FirstBad.{first_bad}
 use Rattle.codec.specs.Codec.{card_length, read_number}
-use Rattle.catalogue.specs.declared.Checked.{Checked}
 
 -- the number of card k, counted from 0
 unfoldable pub number_at : List ℕ → ℕ → ℕ
 number_at s k = read_number (take card_length (drop (card_length * k) s))
 
-abbrev pub checked : ℕ × ℕ → Checked
-checked bad = record { number = bad.0; place = bad.1 }
-
-unfoldable pub check_answer : List ℕ → Checked
-check_answer s = checked (cond (eqb (length s % card_length) 0) (first_bad (number_at s) 0 (length s / card_length)) (14, 0))
+unfoldable pub check_answer : List ℕ → ℕ × ℕ
+check_answer s = cond (eqb (length s % card_length) 0) (first_bad (number_at s) 0 (length s / card_length)) (14, 0)

@@ -8,10 +8,13 @@ use borrow.Author.Tests.{eqb-true, eq-eqb, ne_eqb, not-false}
 use lib.Dec.{eqb, lit<}
 use lib.ListN.{length, get_or}
 use Rattle.algebra.proofs.BoolLaws.{both, and-true, and_first, and_second}
+use Rattle.refusal.specs.declared.Refusal.{Refusal}
+use Rattle.refusal.specs.Answered.{number_of}
+use Rattle.refusal.proofs.AnsweredLaws.{some}
 use Rattle.refusal.specs.Outputs.{roomy, kept}
 use Rattle.refusal.specs.Refusal.{first}
 use Rattle.refusal.proofs.OutputLaws.{one, too_short, long-enough, roomy-zero, keeps, takes}
-use Rattle.refusal.proofs.RefusalLaws.{positive, accepted}
+use Rattle.refusal.proofs.RefusalLaws.{positive, accepted, wrong-length, past-length}
 use Rattle.card.specs.declared.Card.{Card}
 use Rattle.card.specs.declared.Answer.{Answer}
 use Rattle.card.specs.Checks.{checks, card_number}
@@ -65,17 +68,18 @@ second_fits true true r h e = refl
 second_fits true false r h e = absurd (h refl e)
 second_fits false w r h e = absurd (one e)
 
--- what an opened record's answer says
-module _ (room : ℕ) (s : List ℕ) (o : Answer) (q : o ≡ opened_for room s) where
-  pub number-opened : o.number ≡ opened_number room s
+-- what an opened record says: refused, its number, and accepted, its card
+module _ (room : ℕ) (s : List ℕ) where
+  pub number-opened : (e : Refusal) → refused_with (number_of e) ≡ opened_for room s → number_of e ≡ opened_number room s
   unfolding opened_for
-  number-opened = ap (λ (x : Answer). x.number) q
+  number-opened e q = ap (λ (x : Answer). x.number) q
 
-  module _ (z : o.number ≡ 0) where
+  module _ (c : Card) (q : answer 0 c ≡ opened_for room s) where
     none : opened_number room s ≡ 0
-    none = sym number-opened ∙ z
+    unfolding opened_for
+    none = sym (ap (λ (x : Answer). x.number) q)
 
-    pub card-opened : o.card ≡ decode s
+    pub card-opened : c ≡ decode s
     unfolding opened_for
     card-opened = ap (λ (x : Answer). x.card) q ∙ rw none
 
@@ -124,20 +128,29 @@ put-settled (suc n) new old out =
     some : roomy card_length (length out) (suc n) ≡ 0 → ⊥
     some e = let w = (roomy-zero card_length (length out) (suc n) e).1 in omega (arith, w)
 
--- a card put with its own number is written
-module _ (c : Card) (out : List ℕ) where
-  number-written : put_number (answer (card_number c) c) (length out) ≡ write_number c (length out)
-  unfolding put_number write_number card_number roomy first
-  number-written = go (eqb (length out) card_length)
-    where
-      go : (b : Bool) → cond b (first (checks true c)) 1 ≡ first ((1, not b) ∷ checks true c)
-      go true = refl
-      go false = refl
+-- ---- a card written: the buffer's length, then the card's own number
 
-  pub put_written : (number n : ℕ) (w : List ℕ) → number ≡ card_number c → (n ≡ put_number (answer number c) (length out)) × (w ≡ put_out (answer number c) out)
-      → (n ≡ write_number c (length out)) × (w ≡ written c out)
-  unfolding put_out written
-  put_written number n w e h = (
-    h.0 ∙ ap (λ (m : ℕ). put_number (answer m c) (length out)) e ∙ number-written,
-    h.1 ∙ ap (λ (m : ℕ). put_out (answer m c) out) e ∙ ap (λ (m : ℕ). kept m (encode c) out) number-written,
-  )
+-- a card is not accepted with a zero byte that is not 0
+pub never-checked : (c : Card) → first (checks false c) ≡ 0 → ⊥
+never-checked c e = true≢false (sym (zeros-true false c e))
+
+module _ (c : Card) (out : List ℕ) where
+  refused-write : (n : ℕ) → n ≡ write_number c (length out) → (n ≡ 0 → ⊥) → (n ≡ write_number c (length out)) × (out ≡ written c out)
+  unfolding written
+  refused-write n e h = (e, keeps n (write_number c (length out)) (encode c) out e h)
+
+  pub write-short : (length out ≡ card_length → ⊥) → (1 ≡ write_number c (length out)) × (out ≡ written c out)
+  unfolding write_number
+  write-short h = refused-write 1 (wrong-length (length out) card_length (checks true c) h) one
+
+  module _ (l : length out ≡ card_length) where
+    own : card_number c ≡ write_number c (length out)
+    unfolding write_number card_number
+    own = sym (past-length (length out) card_length (checks true c) l)
+
+    pub write-kept : (e : Refusal) → number_of e ≡ card_number c → (number_of e ≡ write_number c (length out)) × (out ≡ written c out)
+    write-kept e h = refused-write (number_of e) (h ∙ own) (some e)
+
+    pub write-taken : (w : List ℕ) → 0 ≡ card_number c → w ≡ encode c → (0 ≡ write_number c (length out)) × (w ≡ written c out)
+    unfolding written
+    write-taken w z e = (z ∙ own, e ∙ takes 0 (write_number c (length out)) (encode c) out (z ∙ own) refl)

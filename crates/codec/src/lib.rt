@@ -2,70 +2,64 @@
 #![tactic(auto)]
 
 ghost use Rattle.std.specs.Prelude.{◌≡◌, length};
+ghost use Rattle.refusal.specs.Answered as A;
+ghost use Rattle.card.specs.Zero as Z;
 ghost use Rattle.codec.specs.Codec as C;
 ghost use Rattle.codec.specs.Opened as O;
 
 use card::{Answer, Card};
+use refusal::Refusal;
 
 mod record;
 
 // The length of a card's record, bytes.
 pub const CARD_LENGTH: usize = 88;
 
-// The number of a card's bytes: 1 where the record has not exactly CARD_LENGTH bytes, then 2 to 9, or 0.
-pub fn check(s: &[u8]) -> u32
-    ensures { result ≡ C.read_number s.now }
+// The number of a card's bytes: `Length` where the record has not exactly CARD_LENGTH bytes, then 2 to 9.
+pub fn check(s: &[u8]) -> Result<(), Refusal>
+    ensures { A.number result ≡ C.read_number s.now }
 {
-    if s.len() != CARD_LENGTH {
-        return 1;
-    }
-    let c = record::decode(s);
-    c.check_with(s[11] == 0)
+    let record = layout::whole(s)?;
+    record::decode(record).check_with(record[11] == 0)
 }
 
-// Reads a card: 1 where the record has not exactly CARD_LENGTH bytes, then 2 to 9. Refused, the card is all zeros.
-pub fn read(s: &[u8]) -> Answer
-    ensures { result ≡ C.read_card s.now }
+// Reads a card: `Length` where the record has not exactly CARD_LENGTH bytes, then 2 to 9.
+pub fn read(s: &[u8]) -> Result<Card, Refusal>
+    ensures { Z.answer_of result ≡ C.read_card s.now }
 {
-    if s.len() != CARD_LENGTH {
-        return card::refused(1);
-    }
-    let c = record::decode(s);
-    let number = c.check_with(s[11] == 0);
-    if number != 0 {
-        return card::refused(number);
-    }
-    Answer { number: 0, card: c }
+    let record = layout::whole(s)?;
+    let c = record::decode(record);
+    c.check_with(record[11] == 0)?;
+    Ok(c)
 }
 
-// Writes a card: 1 where the buffer has not exactly CARD_LENGTH bytes, then 2 to 9. Refused, no byte is written.
-pub fn write(c: Card, out: &mut [u8]) -> u32
-    ensures value { result ≡ C.write_number c (length out.old) }
+// Writes a card: `Length` where the buffer has not exactly CARD_LENGTH bytes, then 2 to 9. Refused, no byte is written.
+pub fn write(c: Card, out: &mut [u8]) -> Result<(), Refusal>
+    ensures value { A.number result ≡ C.write_number c (length out.old) }
     ensures out_after { out.new ≡ C.written c out.old }
 {
-    let number = c.check();
-    put(Answer { number, card: c }, out)
+    if out.len() != CARD_LENGTH {
+        return Err(Refusal::Length);
+    }
+    c.check()?;
+    record::encode(c, out);
+    Ok(())
 }
 
-// What a call on bytes starts from, for a buffer of `room` bytes: 1 where a length is wrong, the record's number where its zero byte is not 0; else
-// 0 and the card, not checked: the call checks it. Refused, the card is all zeros.
-pub fn opened(s: &[u8], room: usize) -> Answer
-    ensures { result ≡ O.opened_for room s.now }
+// What a call on bytes starts from, for a buffer of `room` bytes: `Length` where a length is wrong, the record's refusal where its zero byte is not 0; else
+// the card, not checked: the call checks it.
+pub fn opened(s: &[u8], room: usize) -> Result<Card, Refusal>
+    ensures { Z.answer_of result ≡ O.opened_for room s.now }
 {
     if room != CARD_LENGTH {
-        return card::refused(1);
+        return Err(Refusal::Length);
     }
-    if s.len() != CARD_LENGTH {
-        return card::refused(1);
+    let record = layout::whole(s)?;
+    let held = record::decode(record);
+    if record[11] != 0 {
+        held.check_with(false)?;
     }
-    let held = record::decode(s);
-    if s[11] != 0 {
-        return card::refused(held.check_with(false));
-    }
-    Answer {
-        number: 0,
-        card: held,
-    }
+    Ok(held)
 }
 
 // What a call on bytes ends with: 1 where the buffer has not exactly CARD_LENGTH bytes, then the answer's number. At 0 the answer's card is
@@ -75,7 +69,7 @@ pub fn put(a: Answer, out: &mut [u8]) -> u32
     ensures out_after { out.new ≡ O.put_out a out.old }
 {
     if out.len() != CARD_LENGTH {
-        return 1;
+        return Refusal::Length.number();
     }
     if a.number != 0 {
         return a.number;

@@ -5,17 +5,11 @@ ghost use Rattle.codec.specs.Codec as C;
 use crate::CARD_LENGTH;
 use card::Card;
 
-pub fn decode(s: &[u8]) -> Card
-    requires { length s.now ≡ C.card_length }
+pub fn decode(s: &[u8; CARD_LENGTH]) -> Card
     ensures { result ≡ C.decode s.now }
 {
-    // never met; it tells the compiler the length, so that no byte's place is tested
-    if s.len() != CARD_LENGTH {
-        return card::refused(1).card;
-    }
-    let site = layout::site_of(s);
     Card {
-        site,
+        site: layout::site_of(s),
         frame: s[9],
         tide: s[10],
         epoch: octets::signed_at(s, 12, 4),
@@ -30,8 +24,7 @@ pub fn encode(c: Card, out: &mut [u8])
     requires { length out.old ≡ C.card_length }
     ensures { out.new ≡ C.encode c }
 {
-    let site = c.site;
-    layout::put_head(out, site, c.frame, c.tide);
+    layout::put_head(out, c.site, c.frame, c.tide);
     octets::put_signed(out, 12, 4, c.epoch);
     layout::put_vector(out, 16, 4, c.mark);
     layout::put_vector(out, 28, 4, c.velocity);

@@ -1,19 +1,19 @@
 // A field record of the right length: what it holds, its checks, what is written of a card, and the card that it expands to.
 ghost use Rattle.std.specs.Prelude.{◌≡◌, ◌≤◌, ◌&&◌, T, leb, nat_abs, length};
+ghost use Rattle.refusal.specs.Answered as A;
 ghost use Rattle.refusal.specs.Refusal as R;
 ghost use Rattle.mark.specs.Mark as M;
 ghost use Rattle.card.specs.Checks as K;
 ghost use Rattle.field.specs.Field as F;
 ghost use Rattle.field.specs.MetresOut as O;
 
+use crate::FIELD_LENGTH;
 use card::Card;
-use mark::{Vec3, sized};
-
-// Grains in a metre.
-const METRE: i64 = 1461000000;
+use mark::{METRE, Vec3, sized};
+use refusal::Refusal;
 
 // What a field record holds: the offset from the mark in 0.1 mm, the speed in 0.1 mm a year.
-#[derive(Clone, Copy)]
+#[derive(Clone, Copy, Debug, PartialEq, Eq)]
 pub struct Opened {
     pub site: [u8; 9],
     pub frame: u8,
@@ -25,6 +25,7 @@ pub struct Opened {
 }
 
 // near of each component over b.
+#[tactic(auto, unfolding(crate::specs::Field::rounded_by))]
 pub fn rounded(v: Vec3, b: u64) -> Vec3
     ensures { result ≡ F.rounded_by b v }
 {
@@ -44,8 +45,7 @@ pub fn encode_field(c: Card, away: Vec3, out: &mut [u8])
     let offset = rounded(away, 146100);
     let speed = rounded(c.velocity, 100);
     let tail = [0u8, 0u8];
-    let site = c.site;
-    layout::put_head(out, site, c.frame, c.tide);
+    layout::put_head(out, c.site, c.frame, c.tide);
     octets::put_signed(out, 12, 4, c.epoch);
     layout::put_vector(out, 16, 4, c.mark);
     layout::put_vector(out, 28, 4, offset);
@@ -53,13 +53,11 @@ pub fn encode_field(c: Card, away: Vec3, out: &mut [u8])
     octets::put_bytes(out, 46, &tail);
 }
 
-pub fn open(s: &[u8]) -> Opened
-    requires { length s.now ≡ F.field_length }
+pub fn open(s: &[u8; FIELD_LENGTH]) -> Opened
     ensures { result ≡ F.opened_of s.now }
 {
-    let site = layout::site_of(s);
     Opened {
-        site,
+        site: layout::site_of(s),
         frame: s[9],
         tide: s[10],
         epoch: octets::signed_at(s, 12, 4),
@@ -70,46 +68,33 @@ pub fn open(s: &[u8]) -> Opened
 }
 
 // Bytes 11, 46 and 47 are zero.
-pub fn zero_bytes(s: &[u8]) -> bool
-    requires { length s.now ≡ F.field_length }
+#[tactic(auto, unfolding(crate::specs::Field::zero_bytes))]
+pub fn zero_bytes(s: &[u8; FIELD_LENGTH]) -> bool
     ensures { result ≡ F.zero_bytes s.now }
 {
-    if s[11] != 0 {
-        return false;
-    }
-    if s[46] != 0 {
-        return false;
-    }
-    s[47] == 0
+    s[11] == 0 && s[46] == 0 && s[47] == 0
 }
 
 // Byte 10 is 0 or 1, and the zero bytes are zero.
 pub fn fourth_fits(zeros: bool, byte: u8) -> bool
     ensures { result ≡ (zeros && leb byte 1) }
 {
-    if !zeros {
-        return false;
-    }
-    byte <= 1
+    zeros && byte <= 1
 }
 
-// The refusals 2 to 8 of a field record, or 0.
-pub fn opened_refusal(f: Opened, zeros: bool) -> u32
-    ensures { result ≡ R.first (F.opened_checks zeros f) }
+// The refusals 2 to 8 of a field record.
+pub fn check_opened(f: Opened, zeros: bool) -> Result<(), Refusal>
+    ensures { A.number result ≡ R.first (F.opened_checks zeros f) }
 {
-    let site = f.site;
     let fits = fourth_fits(zeros, f.tide);
-    let number = head::check_head(site, f.frame, fits, f.epoch, f.mark);
-    if number != 0 {
-        return number;
-    }
+    head::check_head(f.site, f.frame, fits, f.epoch, f.mark)?;
     if !sized(f.speed, 5000) {
-        return 7;
+        return Err(Refusal::Velocity);
     }
     if !sized(f.offset, 10000000) {
-        return 8;
+        return Err(Refusal::Position);
     }
-    0
+    Ok(())
 }
 
 pub fn expanded(f: Opened) -> Card
@@ -118,14 +103,14 @@ pub fn expanded(f: Opened) -> Card
     requires t_3 { T (M.sized 5000 f.speed) }
     ensures { result ≡ F.expanded_of f }
 {
+    // an array is copied to a local before a literal takes it
     let site = f.site;
-    let m = f.mark;
     Card {
         site,
         frame: f.frame,
         tide: f.tide,
         epoch: f.epoch,
-        mark: m,
+        mark: f.mark,
         velocity: Vec3 {
             x: 100 * f.speed.x,
             y: 100 * f.speed.y,

@@ -1,18 +1,22 @@
 -- Frame shifts add up, over every row and any codes: by way of a third frame is the same as direct, and back is exact. And what is answered
 -- for a code and a mark.
-use mathlib.Core.Path.{◌≡◌}
+use mathlib.Core.Path.{◌≡◌, refl, ap, ◌∙◌}
 use mathlib.Core.Bool.{true, false}
-use Prim.Native.Nat.{ℕ, suc, ◌≤◌, ◌<◌, suc-le-suc}
+use Prim.Native.Nat.{ℕ, suc, ◌<◌, suc-le-suc}
 use native.Mathlib.Omega.{arith}
-use borrow.Author.Tests.{le-leb, lt-leb}
+use borrow.Author.Tests.{lt-leb}
 use lib.IntN.{ℤ, pos, ◌+ℤ◌, ◌-ℤ◌}
 use Rattle.algebra.proofs.Difference.{split, ℤ⊖}
 use Rattle.refusal.specs.Refusal.{first}
+use Rattle.std.specs.Prelude.{Ok, Err}
+use Rattle.refusal.specs.declared.Refusal.{Refusal}
+use Rattle.refusal.specs.Answered.{Answered, answered}
+use Rattle.refusal.proofs.AnsweredLaws.{some}
 use Rattle.mark.specs.declared.Vec3.{Vec3}
 use Rattle.mark.specs.Mark.{nowhere, plus, minus, marked}
 use Rattle.mark.proofs.LengthLaws.{vec≡}
 use Rattle.frames.specs.declared.Terms.{Terms}
-use Rattle.frames.specs.Frame.{frame_at, frame_b, frame_shift, frame_gain, known_frame, frame_a, frame_number, terms_answer}
+use Rattle.frames.specs.Frame.{frame_at, frame_b, frame_shift, frame_gain, known_frame, frame_a, frame_number, no_terms, terms_answer}
 
 onward : (a b c : ℤ) → (b -ℤ a) +ℤ (c -ℤ b) ≡ c -ℤ a
 onward a b c = rw (split a, split b, split c) (simp ℤ⊖ (omega arith))
@@ -53,18 +57,14 @@ gain-back f g m = minus-return (frame_b f m) (frame_b g m)
 abbrev pub last_frame : ℕ
 last_frame = 11
 
-pub frame-known : (g : ℕ) → g ≤ last_frame → known_frame g ≡ true
-unfolding known_frame
-frame-known g h = le-leb (suc g) (suc last_frame) (suc-le-suc h)
-
 pub frame-unknown : (g : ℕ) → last_frame < g → known_frame g ≡ false
 unfolding known_frame
 frame-unknown g h = lt-leb (suc g) (suc last_frame) (suc-le-suc h)
 
 -- ---- the answers: 3, 6, or A and B
 
-abbrev terms : ℕ → Vec3 → Vec3 → Terms
-terms n a b = record { number = n; a = a; b = b }
+abbrev terms : ℕ → Vec3 → Vec3 → Answered Terms
+terms n a b = record { number = n; value = record { a = a; b = b } }
 
 module _ (g : ℕ) (m : Vec3) where
   pub terms-unknown : known_frame g ≡ false → terms 3 nowhere nowhere ≡ terms_answer g m
@@ -79,10 +79,12 @@ module _ (g : ℕ) (m : Vec3) where
   unfolding terms_answer frame_number first
   terms-taken a b h e p q = rw (h, e, p, q)
 
-  pub terms-a : (t : Terms) → known_frame g ≡ true → marked m ≡ true → t ≡ terms_answer g m → t.a ≡ frame_a g m
-  unfolding terms_answer
-  terms-a t h e q = rw (q, h, e)
+  -- a known frame at an accepted mark is never refused
+  module _ (h : known_frame g ≡ true) (e : marked m ≡ true) where
+    pub terms-never : (d : Refusal) → answered no_terms (Err d) ≡ terms_answer g m → ⊥
+    unfolding terms_answer frame_number first
+    terms-never d q = some d (ap (λ x. x.number) q ∙ rw (h, e) refl)
 
-  pub terms-b : (t : Terms) → known_frame g ≡ true → marked m ≡ true → t ≡ terms_answer g m → t.b ≡ frame_b g m
-  unfolding terms_answer
-  terms-b t h e q = rw (q, h, e)
+    pub terms-accepted : (t : Terms) → answered no_terms (Ok t) ≡ terms_answer g m → (t.a ≡ frame_a g m) × (t.b ≡ frame_b g m)
+    unfolding terms_answer
+    terms-accepted t q = (ap (λ x. x.value.a) q ∙ rw (h, e) refl, ap (λ x. x.value.b) q ∙ rw (h, e) refl)

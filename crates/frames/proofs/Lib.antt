@@ -3,3 +3,4 @@ pub mod LineLaws
 pub mod RowSizes
 pub mod RowLaws
 pub mod FrameLaws
+pub mod KnownLaws

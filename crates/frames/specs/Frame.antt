@@ -4,6 +4,7 @@
 -- quarter-days, so a micrometre a year is a grain a quarter-day, and 0.1 mm a year is 100 of them.
 use Rattle.std.specs.Prelude.{Bool, not, cond, ◌&&◌, List, [], ◌∷◌, ℕ, ltb, length, get_or, ℤ, pos, neg_ℤ, ◌+ℤ◌, ◌-ℤ◌, ◌*ℤ◌}
 use Rattle.refusal.specs.Refusal.{first}
+use Rattle.refusal.specs.Answered.{Answered}
 use Rattle.numbers.specs.Near.{near}
 use Rattle.mark.specs.declared.Vec3.{Vec3}
 use Rattle.mark.specs.Mark.{vec, nowhere, marked, plus, minus, scaled}
@@ -157,7 +158,11 @@ frame_gain f g m = minus (frame_b g m) (frame_b f m)
 unfoldable pub frame_number : ℕ → Vec3 → ℕ
 frame_number code m = first ((3, not (known_frame code)) ∷ (6, not (marked m)) ∷ [])
 
-unfoldable pub terms_answer : ℕ → Vec3 → Terms
+-- the terms that come with a refusal
+abbrev pub no_terms : Terms
+no_terms = record { a = nowhere; b = nowhere }
+
+unfoldable pub terms_answer : ℕ → Vec3 → Answered Terms
 terms_answer code m =
     let ok = known_frame code && marked m in
-    record { number = frame_number code m; a = cond ok (frame_a code m) nowhere; b = cond ok (frame_b code m) nowhere }
+    record { number = frame_number code m; value = record { a = cond ok (frame_a code m) nowhere; b = cond ok (frame_b code m) nowhere } }

@@ -2,47 +2,34 @@
 #![tactic(auto)]
 
 ghost use Rattle.std.specs.Prelude.{◌≡◌};
+ghost use Rattle.refusal.specs.Answered as A;
 ghost use Rattle.frames.specs.Frame as F;
 
 use mark::Vec3;
+use refusal::Refusal;
 
+mod known;
 mod lines;
 mod rows;
 
-// The last frame: 0 ITRF2008, 1 ITRF2005, 2 ITRF2000, 3 ITRF97, 4 ITRF96, 5 ITRF94, 6 ITRF93, 7 ITRF92, 8 ITRF91, 9 ITRF90, 10 ITRF89, 11 ITRF88.
-pub const LAST_FRAME: u8 = 11;
+pub use known::Frame;
 
-// A refusal number, and A in grains, B in grains a quarter-day: zeros when refused.
-#[derive(Clone, Copy)]
+// A in grains, and B in grains a quarter-day.
+#[derive(Clone, Copy, Debug, PartialEq, Eq)]
 pub struct Terms {
-    pub number: u32,
     pub a: Vec3,
     pub b: Vec3,
 }
 
-// A and B of a frame at a mark, or 3 unknown frame, 6 mark.
-pub fn frame_terms(m: Vec3, frame: u8) -> Terms
-    ensures { result ≡ F.terms_answer frame m }
+// A and B of a frame at a mark, or `Frame`, then `Mark`.
+pub fn frame_terms(m: Vec3, frame: u8) -> Result<Terms, Refusal>
+    ensures { A.answered F.no_terms result ≡ F.terms_answer frame m }
 {
-    let zero = Vec3 { x: 0, y: 0, z: 0 };
-    if LAST_FRAME < frame {
-        return Terms {
-            number: 3,
-            a: zero,
-            b: zero,
-        };
-    }
-    if mark::check_mark(m) != 0 {
-        return Terms {
-            number: 6,
-            a: zero,
-            b: zero,
-        };
-    }
-    let r = rows::row_of(frame);
-    Terms {
-        number: 0,
-        a: lines::terms(1461, r.at, m),
-        b: lines::terms(1, r.rates, m),
-    }
+    let known = Frame::try_from(u32::from(frame))?;
+    mark::check_mark(m)?;
+    let row = rows::row_of(known);
+    Ok(Terms {
+        a: lines::terms(1461, row.at, m),
+        b: lines::terms(1, row.rates, m),
+    })
 }

@@ -1,11 +1,13 @@
 // The rows of Table 4.1, as they are printed.
 ghost use Rattle.std.specs.Prelude.{◌≡◌};
 ghost use Rattle.frames.specs.Frame as F;
+ghost use Rattle.frames.specs.Known as K;
 
+use crate::known::Frame;
 use mark::Vec3;
 
 // A line of the table: T in 0.1 mm, D in 0.01 ppb, R in 0.01 mas, or the same a year.
-#[derive(Clone, Copy)]
+#[derive(Clone, Copy, Debug, PartialEq, Eq)]
 pub struct Line {
     pub t: Vec3,
     pub d: i64,
@@ -13,74 +15,63 @@ pub struct Line {
 }
 
 // A frame's two lines: at 2000.0, and the rates.
-#[derive(Clone, Copy)]
+#[derive(Clone, Copy, Debug, PartialEq, Eq)]
 pub struct Row {
     pub at: Line,
     pub rates: Line,
 }
 
-// The row of a frame; that of an unknown one is all zero.
-pub fn row_of(code: u8) -> Row
-    ensures { result ≡ F.row_of code }
+// The row of a frame.
+#[tactic(auto, unfolding(crate::specs::Frame::row_of))]
+pub fn row_of(frame: Frame) -> Row
+    ensures { result ≡ F.row_of (K.code_of frame) }
 {
-    match code {
-        // ITRF2005
-        1 => Row {
+    match frame {
+        Frame::Itrf2005 => Row {
             at: printed(-20, -9, -47, 94, 0, 0, 0),
             rates: printed(3, 0, 0, 0, 0, 0, 0),
         },
-        // ITRF2000
-        2 => Row {
+        Frame::Itrf2000 => Row {
             at: printed(-19, -17, -105, 134, 0, 0, 0),
             rates: printed(1, 1, -18, 8, 0, 0, 0),
         },
-        // ITRF97
-        3 => Row {
+        Frame::Itrf97 => Row {
             at: printed(48, 26, -332, 292, 0, 0, 6),
             rates: printed(1, -5, -32, 9, 0, 0, 2),
         },
-        // ITRF96
-        4 => Row {
+        Frame::Itrf96 => Row {
             at: printed(48, 26, -332, 292, 0, 0, 6),
             rates: printed(1, -5, -32, 9, 0, 0, 2),
         },
-        // ITRF94
-        5 => Row {
+        Frame::Itrf94 => Row {
             at: printed(48, 26, -332, 292, 0, 0, 6),
             rates: printed(1, -5, -32, 9, 0, 0, 2),
         },
-        // ITRF93
-        6 => Row {
+        Frame::Itrf93 => Row {
             at: printed(-240, 24, -386, 341, -171, -148, -30),
             rates: printed(-28, -1, -24, 9, -11, -19, 7),
         },
-        // ITRF92
-        7 => Row {
+        Frame::Itrf92 => Row {
             at: printed(128, 46, -412, 221, 0, 0, 6),
             rates: printed(1, -5, -32, 9, 0, 0, 2),
         },
-        // ITRF91
-        8 => Row {
+        Frame::Itrf91 => Row {
             at: printed(248, 186, -472, 361, 0, 0, 6),
             rates: printed(1, -5, -32, 9, 0, 0, 2),
         },
-        // ITRF90
-        9 => Row {
+        Frame::Itrf90 => Row {
             at: printed(228, 146, -632, 391, 0, 0, 6),
             rates: printed(1, -5, -32, 9, 0, 0, 2),
         },
-        // ITRF89
-        10 => Row {
+        Frame::Itrf89 => Row {
             at: printed(278, 386, -1012, 731, 0, 0, 6),
             rates: printed(1, -5, -32, 9, 0, 0, 2),
         },
-        // ITRF88
-        11 => Row {
+        Frame::Itrf88 => Row {
             at: printed(228, 26, -1252, 1041, 10, 0, 6),
             rates: printed(1, -5, -32, 9, 0, 0, 2),
         },
-        // ITRF2008
-        _ => Row {
+        Frame::Itrf2008 => Row {
             at: printed(0, 0, 0, 0, 0, 0, 0),
             rates: printed(0, 0, 0, 0, 0, 0, 0),
         },

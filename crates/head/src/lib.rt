@@ -1,11 +1,14 @@
 // What a card and a field record begin with: site, frame, byte 10, epoch, mark. Their shared checks 2 to 6.
 #![tactic(auto)]
 
-ghost use Rattle.std.specs.Prelude.{◌≡◌};
+ghost use Rattle.std.specs.Prelude.{◌≡◌, ◌↔◌, IsTrue, EachIndex, slice_index};
+ghost use Rattle.refusal.specs.Answered as A;
 ghost use Rattle.refusal.specs.Refusal as R;
 ghost use Rattle.head.specs.Head as K;
 
+use frames::Frame;
 use mark::Vec3;
+use refusal::Refusal;
 
 pub mod state;
 
@@ -13,33 +16,32 @@ pub mod state;
 const EPOCH_MOST: u64 = 146100;
 
 // Byte 5 is M or S, every other one a digit.
+#[tactic(auto, unfolding(crate::specs::Head::shape_at, crate::specs::Head::digit))]
 fn shape_at(i: usize, b: u8) -> bool
     ensures { result ≡ K.shape_at i b }
 {
     if i == 5 {
-        return b == 77 || b == 83;
+        return b == b'M' || b == b'S';
     }
-    48 <= b && b <= 57
+    b'0' <= b && b <= b'9'
 }
 
 // Nine bytes of site shape: five digits, M or S, three digits.
 pub fn is_site(s: &[u8]) -> bool
     ensures { result ≡ K.site_shape s.now }
 {
-    if s.len() != 9 {
-        return false;
-    }
-    let mut i = 0usize;
-    while i < 9 {
-        if !shape_at(i, s[i]) {
-            return false;
-        }
-        i += 1;
-    }
-    true
+    s.len() == 9 && each_fits(s)
+}
+
+// Each byte is what a site has at its place.
+fn each_fits(s: &[u8]) -> bool
+    ensures { IsTrue result ↔ EachIndex s.now (λ i. IsTrue (K.shape_at i (slice_index s.now i))) }
+{
+    s.iter().enumerate().all(|(i, &b)| shape_at(i, b))
 }
 
 // Quarter-days from 2000.0, -146,100 to 146,100.
+#[tactic(auto, unfolding(crate::specs::Head::epoch_fits))]
 pub fn epoch_fits(e: i64) -> bool
     ensures { result ≡ K.epoch_fits e }
 {
@@ -48,20 +50,24 @@ pub fn epoch_fits(e: i64) -> bool
 
 // The checks 2 to 6, which a card and a field record share: site, frame, byte 10 and the zero bytes, of which `fits` is the answer, epoch in
 // quarter-days from 2000.0, mark in metres.
-pub fn check_head(site: [u8; 9], frame: u8, fits: bool, epoch: i64, mark: Vec3) -> u32
-    ensures { result ≡ R.first (K.head_checks site frame fits epoch mark) }
+pub fn check_head(
+    site: [u8; 9],
+    frame: u8,
+    fits: bool,
+    epoch: i64,
+    mark: Vec3,
+) -> Result<(), Refusal>
+    ensures { A.number result ≡ R.first (K.head_checks site frame fits epoch mark) }
 {
     if !is_site(&site) {
-        return 2;
+        return Err(Refusal::Site);
     }
-    if frames::LAST_FRAME < frame {
-        return 3;
-    }
+    Frame::try_from(u32::from(frame))?;
     if !fits {
-        return 4;
+        return Err(Refusal::TideByte);
     }
     if !epoch_fits(epoch) {
-        return 5;
+        return Err(Refusal::Epoch);
     }
     mark::check_mark(mark)
 }

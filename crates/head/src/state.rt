@@ -3,6 +3,7 @@ ghost use Rattle.std.specs.Prelude.{◌≡◌};
 ghost use Rattle.head.specs.State as S;
 
 // The tide state of a byte 10.
+#[tactic(auto, unfolding(crate::specs::State::state_of))]
 pub fn state_of(byte: u8) -> u8
     ensures { result ≡ S.state_of byte }
 {
@@ -10,6 +11,7 @@ pub fn state_of(byte: u8) -> u8
 }
 
 // The byte with another state. What else it holds stays: today, nothing.
+#[tactic(auto, unfolding(crate::specs::State::with_state))]
 pub fn with_state(byte: u8, state: u8) -> u8
     ensures { result ≡ S.with_state byte state }
 {

@@ -5,6 +5,15 @@ use Prim.Native.Nat.{ℕ}
 use Rattle.laws.specs.OneOutcome.{OneOutcome, OneShown}
 use Rattle.numbers.specs.Whole.{whole_of}
 use Rattle.numbers.proofs.WholeLaws.{means-shown}
+use lib.ListN.{length}
+use Rattle.refusal.proofs.AnsweredLaws as Told
+use Rattle.refusal.proofs.AnsweredLaws.{same-number, same-counted}
+use Rattle.mark.specs.Mark.{nowhere}
+use Rattle.frames.specs.Frame.{no_terms}
+use Rattle.field.specs.MetresOut.{no_metres}
+use Rattle.card.proofs.CheckLaws.{read-same}
+use Rattle.catalogue.proofs.ReaderLaws.{taken-same}
+use Rattle.refusal.proofs as refusal
 use Rattle.numbers.proofs as numbers
 use Rattle.octets.proofs as octets
 use Rattle.text.proofs as text
@@ -27,6 +36,15 @@ same : {A : Type 0} {x y z : A} → x ≡ z → y ≡ z → x ≡ y
 same p q = p ∙ sym q
 
 -- ---- an answer, and nothing lent to write to
+
+pub refusal-number-one : OneOutcome 0 refusal.Refusal.number.Kinds.ps refusal.Refusal.number.Kinds.r refusal.Refusal.number.Reads.Learnt
+refusal-number-one κs a z z' w w' p q i = (same p q i, w)
+
+pub frame-code-one : OneOutcome 0 frames.known.Frame.code.Kinds.ps frames.known.Frame.code.Kinds.r frames.known.Frame.code.Reads.Learnt
+frame-code-one κs a z z' w w' p q i = (same p q i, w)
+
+pub metres-zeros-one : OneOutcome 0 field.Metres.zeros.Kinds.ps field.Metres.zeros.Kinds.r field.Metres.zeros.Reads.Learnt
+metres-zeros-one κs a z z' w w' p q i = (same p q i, w)
 
 pub magnitude-one : OneOutcome 0 numbers.magnitude.Kinds.ps numbers.magnitude.Kinds.r numbers.magnitude.Reads.Learnt
 magnitude-one κs a z z' w w' p q i = (same p q i, w)
@@ -53,10 +71,10 @@ pub width_one : OneOutcome 0 octets.width.Kinds.ps octets.width.Kinds.r octets.w
 width_one κs a z z' w w' p q i = (same p q i, w)
 
 pub check-mark-one : OneOutcome 0 mark.check_mark.Kinds.ps mark.check_mark.Kinds.r mark.check_mark.Reads.Learnt
-check-mark-one κs a z z' w w' p q i = (same p q i, w)
+check-mark-one κs a z z' w w' p q i = (same-number z z' (same p q) i, w)
 
 pub length-of-one : OneOutcome 0 mark.length_of.Kinds.ps mark.length_of.Kinds.r mark.length_of.Reads.Learnt
-length-of-one κs a z z' w w' p q i = (same p q i, w)
+length-of-one κs a z z' w w' p q i = (Told.same 0 z z' (same p q) i, w)
 
 pub squares-within-one : OneOutcome 0 mark.squares_within.Kinds.ps mark.squares_within.Kinds.r mark.squares_within.Reads.Learnt
 squares-within-one κs a z z' w w' p q i = (same p q i, w)
@@ -65,25 +83,25 @@ pub sized-one : OneOutcome 0 mark.sized.Kinds.ps mark.sized.Kinds.r mark.sized.R
 sized-one κs a z z' w w' p q i = (same p q i, w)
 
 pub permanent-one : OneOutcome 0 tides.permanent.Kinds.ps tides.permanent.Kinds.r tides.permanent.Reads.Learnt
-permanent-one κs a z z' w w' p q i = (same p q i, w)
+permanent-one κs a z z' w w' p q i = (Told.same nowhere z z' (same p q) i, w)
 
 pub frame-terms-one : OneOutcome 0 frames.frame_terms.Kinds.ps frames.frame_terms.Kinds.r frames.frame_terms.Reads.Learnt
-frame-terms-one κs a z z' w w' p q i = (same p q i, w)
+frame-terms-one κs a z z' w w' p q i = (Told.same no_terms z z' (same p q) i, w)
 
 pub solid-tide-one : OneOutcome 0 tides.solid_tide.Kinds.ps tides.solid_tide.Kinds.r tides.solid_tide.Reads.Learnt
-solid-tide-one κs a z z' w w' p q i = (same p q i, w)
+solid-tide-one κs a z z' w w' p q i = (Told.same nowhere z z' (same p q) i, w)
 
-pub bodies-number-one : OneOutcome 0 tides.bodies_number.Kinds.ps tides.bodies_number.Kinds.r tides.bodies_number.Reads.Learnt
-bodies-number-one κs a z z' w w' p q i = (same p q i, w)
+pub check-bodies-one : OneOutcome 0 tides.check_bodies.Kinds.ps tides.check_bodies.Kinds.r tides.check_bodies.Reads.Learnt
+check-bodies-one κs a z z' w w' p q i = (same-number z z' (same p q) i, w)
 
 pub direction-of-one : OneOutcome 0 tides.direction_of.Kinds.ps tides.direction_of.Kinds.r tides.direction_of.Reads.Learnt
-direction-of-one κs a z z' w w' p q i = (same p q i, w)
+direction-of-one κs a z z' w w' p q i = (Told.same nowhere z z' (same p q) i, w)
 
 pub pair-at-one : OneOutcome 0 tides.pair_at.Kinds.ps tides.pair_at.Kinds.r tides.pair_at.Reads.Learnt
-pair-at-one κs a z z' w w' p q i = (same p q i, w)
+pair-at-one κs a z z' w w' p q i = (Told.same nowhere z z' (same p q) i, w)
 
 pub read_one : OneOutcome 1 codec.read.Kinds.ps codec.read.Kinds.r codec.read.Reads.Learnt
-read_one κs a z z' w w' p q i = (same p q i, w)
+read_one κs a z z' w w' p q i = (read-same z z' (same p q) i, w)
 
 pub site-of-one : OneOutcome 1 layout.site_of.Kinds.ps layout.site_of.Kinds.r layout.site_of.Reads.Learnt
 site-of-one κs a z z' w w' p q i = (same p q i, w)
@@ -92,25 +110,25 @@ pub vector-at-one : OneOutcome 1 layout.vector_at.Kinds.ps layout.vector_at.Kind
 vector-at-one κs a z z' w w' p q i = (same p q i, w)
 
 pub codec-check-one : OneOutcome 1 codec.check.Kinds.ps codec.check.Kinds.r codec.check.Reads.Learnt
-codec-check-one κs a z z' w w' p q i = (same p q i, w)
+codec-check-one κs a z z' w w' p q i = (same-number z z' (same p q) i, w)
 
 pub opened_one : OneOutcome 1 codec.opened.Kinds.ps codec.opened.Kinds.r codec.opened.Reads.Learnt
-opened_one κs a z z' w w' p q i = (same p q i, w)
+opened_one κs a z z' w w' p q i = (read-same z z' (same p q) i, w)
 
 pub expand-one : OneOutcome 1 field.expand.Kinds.ps field.expand.Kinds.r field.expand.Reads.Learnt
-expand-one κs a z z' w w' p q i = (same p q i, w)
+expand-one κs a z z' w w' p q i = (read-same z z' (same p q) i, w)
 
 pub check-one : OneOutcome 0 card.Card.check.Kinds.ps card.Card.check.Kinds.r card.Card.check.Reads.Learnt
-check-one κs a z z' w w' p q i = (same p q i, w)
+check-one κs a z z' w w' p q i = (same-number z z' (same p q) i, w)
 
 pub check-with-one : OneOutcome 0 card.Card.check_with.Kinds.ps card.Card.check_with.Kinds.r card.Card.check_with.Reads.Learnt
-check-with-one κs a z z' w w' p q i = (same p q i, w)
+check-with-one κs a z z' w w' p q i = (same-number z z' (same p q) i, w)
 
 pub from-mark-one : OneOutcome 0 card.Card.from_mark.Kinds.ps card.Card.from_mark.Kinds.r card.Card.from_mark.Reads.Learnt
-from-mark-one κs a z z' w w' p q i = (same p q i, w)
+from-mark-one κs a z z' w w' p q i = (Told.same nowhere z z' (same p q) i, w)
 
 pub metres-out-one : OneOutcome 0 field.metres_out.Kinds.ps field.metres_out.Kinds.r field.metres_out.Reads.Learnt
-metres-out-one κs a z z' w w' p q i = (same p q i, w)
+metres-out-one κs a z z' w w' p q i = (Told.same no_metres z z' (same p q) i, w)
 
 pub move-by-one : OneOutcome 0 card.Card.move_by.Kinds.ps card.Card.move_by.Kinds.r card.Card.move_by.Reads.Learnt
 move-by-one κs a z z' w w' p q i = (same p q i, w)
@@ -131,7 +149,7 @@ pub solid-off-one : OneOutcome 0 card.Card.solid_off.Kinds.ps card.Card.solid_of
 solid-off-one κs a z z' w w' p q i = (same p q i, w)
 
 pub check-head-one : OneOutcome 0 head.check_head.Kinds.ps head.check_head.Kinds.r head.check_head.Reads.Learnt
-check-head-one κs a z z' w w' p q i = (same p q i, w)
+check-head-one κs a z z' w w' p q i = (same-number z z' (same p q) i, w)
 
 pub refused-one : OneOutcome 0 card.refused.Kinds.ps card.refused.Kinds.r card.refused.Reads.Learnt
 refused-one κs a z z' w w' p q i = (same p q i, w)
@@ -148,17 +166,14 @@ with-state-one κs a z z' w w' p q i = (same p q i, w)
 pub is-site-one : OneOutcome 1 head.is_site.Kinds.ps head.is_site.Kinds.r head.is_site.Reads.Learnt
 is-site-one κs a z z' w w' p q i = (same p q i, w)
 
-pub find-number-one : OneOutcome 2 catalogue.find_number.Kinds.ps catalogue.find_number.Kinds.r catalogue.find_number.Reads.Learnt
-find-number-one κs a z z' w w' p q i = (same p q i, w)
-
 pub find-place-one : OneOutcome 2 catalogue.find_place.Kinds.ps catalogue.find_place.Kinds.r catalogue.find_place.Reads.Learnt
-find-place-one κs a z z' w w' p q i = (same p q i, w)
+find-place-one κs a z z' w w' p q i = (Told.same (length a.0.now) z z' (same p q) i, w)
 
 pub take-at-one : OneOutcome 1 catalogue.take_at.Kinds.ps catalogue.take_at.Kinds.r catalogue.take_at.Reads.Learnt
-take-at-one κs a z z' w w' p q i = (same p q i, w)
+take-at-one κs a z z' w w' p q i = (taken-same z z' (same p q) i, w)
 
 pub catalogue-check-one : OneOutcome 1 catalogue.check.Kinds.ps catalogue.check.Kinds.r catalogue.check.Reads.Learnt
-catalogue-check-one κs a z z' w w' p q i = (same p q i, w)
+catalogue-check-one κs a z z' w w' p q i = (same-counted z z' (same p q) i, w)
 
 pub nv-check-one : OneOutcome 1 netvjesha.nv_check.Kinds.ps netvjesha.nv_check.Kinds.r netvjesha.nv_check.Reads.Learnt
 nv-check-one κs a z z' w w' p q i = (same p q i, w)
@@ -205,10 +220,10 @@ pub put-head-one : OneOutcome 1 layout.put_head.Kinds.ps layout.put_head.Kinds.r
 put-head-one κs a z z' w w' p q i = (z, (same p q i, w.1))
 
 pub series-one : OneOutcome 2 series.series.Kinds.ps series.series.Kinds.r series.series.Reads.Learnt
-series-one κs a z z' w w' p q i = (same p.0 q.0 i, (w.0, (w.1.0, (same p.1 q.1 i, w.1.1.1))))
+series-one κs a z z' w w' p q i = (same-counted z z' (same p.0 q.0) i, (w.0, (w.1.0, (same p.1 q.1 i, w.1.1.1))))
 
 pub write-one : OneOutcome 1 codec.write.Kinds.ps codec.write.Kinds.r codec.write.Reads.Learnt
-write-one κs a z z' w w' p q i = (same p.0 q.0 i, (w.0, (same p.1 q.1 i, w.1.1)))
+write-one κs a z z' w w' p q i = (same-number z z' (same p.0 q.0) i, (w.0, (same p.1 q.1 i, w.1.1)))
 
 pub put_one : OneOutcome 1 codec.put.Kinds.ps codec.put.Kinds.r codec.put.Reads.Learnt
 put_one κs a z z' w w' p q i = (same p.0 q.0 i, (w.0, (same p.1 q.1 i, w.1.1)))
@@ -235,7 +250,7 @@ pub call-bytes-one : OneOutcome 2 records.call_bytes.Kinds.ps records.call_bytes
 call-bytes-one κs a z z' w w' p q i = (same p.0 q.0 i, (w.0, (w.1.0, (same p.1 q.1 i, w.1.1.1))))
 
 pub export-one : OneOutcome 1 field.export.Kinds.ps field.export.Kinds.r field.export.Reads.Learnt
-export-one κs a z z' w w' p q i = (same p.0 q.0 i, (w.0, (same p.1 q.1 i, w.1.1)))
+export-one κs a z z' w w' p q i = (same-number z z' (same p.0 q.0) i, (w.0, (same p.1 q.1 i, w.1.1)))
 
 pub line-one : OneOutcome 2 listing.line.Kinds.ps listing.line.Kinds.r listing.line.Reads.Learnt
 line-one κs a z z' w w' p q i = (same p.0 q.0 i, (w.0, (same p.1 q.1 i, w.1.1)))

@@ -7,6 +7,7 @@ use prog.Memory.{Memory}
 use prog.Routine.{Routine}
 use types.Logic.{Logic}
 use Rattle.laws.specs.OneOutcome.{OneWalked}
+use Rattle.catalogue.proofs.ReaderLaws.{taken-same}
 use Rattle.catalogue.specs.contracts.open as opened
 use Rattle.catalogue.specs.contracts.next as next
 
@@ -32,4 +33,4 @@ module _ {M : Type 1} {𝓤 : Ura M} (𝓛 : Logic 𝓤) (mem : Memory → SProp
   pub next_one : OneWalked 𝓤 next.ended (next.clauses 𝓛 mem run)
   next_one κs a g z z' w w' =
       both 𝓤 _ _ _ _ _ (three 𝓤 _ _ _) (three 𝓤 _ _ _)
-      (λ p q i. (same p.0 q.0 i, (record { src = same p.1.0 q.1.0 i; at = same p.1.1 q.1.1 i }, tt)))
+      (λ p q i. (taken-same z z' (same p.0 q.0) i, (record { src = same p.1.0 q.1.0 i; at = same p.1.1 q.1.1 i }, tt)))

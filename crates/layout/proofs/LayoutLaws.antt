@@ -2,8 +2,7 @@
 -- places are the run put at once.
 use mathlib.Core.Path.{◌≡◌, refl, ap, ap₂, ◌∙◌}
 use mathlib.Core.List.{List, [], ◌∷◌, ◌++◌}
-use Prim.Native.Nat.{ℕ, ◌+◌, ◌*◌, ◌≤◌, min}
-use native.Mathlib.Nat.{min-le_right, min-eq_left}
+use Prim.Native.Nat.{ℕ, ◌+◌, ◌*◌, ◌≤◌}
 use native.Mathlib.Omega.{arith}
 use borrow.Author.Tests.{le-ltb}
 use lib.ListN.{length, take, length-append}
@@ -13,15 +12,11 @@ use Rattle.octets.proofs.OctetLaws.{length-bytes, splice-append}
 use Rattle.mark.specs.declared.Vec3.{Vec3}
 use Rattle.layout.specs.Layout.{Fields, run, three, first_twelve, site_of, spliced, headed}
 
--- ---- the first nine bytes, and a width
+-- ---- the first nine bytes
 
 pub site-long : (s : List ℕ) → 9 ≤ length s → site_of s ≡ take 9 s
 unfolding site_of
 site-long s h = rw (le-ltb (length s) 9 h)
-
--- a width that was narrowed once is not narrowed again
-pub narrow : (n w : ℕ) → n ≡ min w 8 → min n 8 ≡ min w 8
-narrow n w h = ap (λ (k : ℕ). min k 8) h ∙ min-eq_left (min-le_right w 8)
 
 -- ---- lengths
 

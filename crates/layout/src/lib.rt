@@ -2,12 +2,15 @@
 // and is not written; a width above 8 bytes counts as 8.
 #![tactic(auto)]
 
-ghost use Rattle.std.specs.Prelude.{◌≡◌, min};
+ghost use Rattle.std.specs.Prelude.{◌≡◌, ◌≢◌, MatchResult, length, min};
+ghost use Rattle.refusal.specs.declared.Refusal.TheVariants as Is;
 ghost use Rattle.layout.specs.Layout as Y;
 
 use mark::Vec3;
+use refusal::Refusal;
 
 // The first nine bytes; of fewer, nine zeros.
+#[tactic(auto, unfolding(crate::specs::Layout::site_of))]
 pub fn site_of(s: &[u8]) -> [u8; 9]
     ensures { result ≡ Y.site_of s.now }
 {
@@ -18,6 +21,7 @@ pub fn site_of(s: &[u8]) -> [u8; 9]
 }
 
 // Three numbers of w bytes each from place `at`.
+#[tactic(auto, unfolding(crate::specs::Layout::vector_at))]
 pub fn vector_at(s: &[u8], at: u16, w: u16) -> Vec3
     ensures { result ≡ Y.vector_at s.now at (min w 8) }
 {
@@ -31,6 +35,7 @@ pub fn vector_at(s: &[u8], at: u16, w: u16) -> Vec3
     }
 }
 
+#[tactic(auto, unfolding(crate::specs::Layout::spliced))]
 pub fn put_vector(out: &mut [u8], at: u16, w: u16, v: Vec3)
     ensures { out.new ≡ Y.spliced out.old at (min w 8) v }
 {
@@ -43,10 +48,18 @@ pub fn put_vector(out: &mut [u8], at: u16, w: u16, v: Vec3)
 }
 
 // Bytes 0 to 11.
+#[tactic(auto, unfolding(crate::specs::Layout::headed))]
 pub fn put_head(out: &mut [u8], site: [u8; 9], frame: u8, tide: u8)
     ensures { out.new ≡ Y.headed out.old site frame tide }
 {
     let three = [frame, tide, 0u8];
     octets::put_bytes(out, 0, &site);
     octets::put_bytes(out, 9, &three);
+}
+
+// The record that a run of bytes is, where it has a record's length.
+pub fn whole<const N: usize>(s: &[u8]) -> Result<&[u8; N], Refusal>
+    ensures { MatchResult result (λ r. (length s.now ≡ N) × (r.now ≡ s.now)) (λ e. (length s.now ≢ N) × (e ≡ Is.Length)) }
+{
+    s.try_into().or(Err(Refusal::Length))
 }

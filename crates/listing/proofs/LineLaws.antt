@@ -8,10 +8,15 @@ use borrow.Author.Tests.{ne_eqb}
 use lib.Dec.{eqb}
 use lib.ListN.{length, length-append, length-take}
 use lib.IntN.{ℤ, pos}
+use Rattle.std.specs.Prelude.{Ok, Err}
+use Rattle.refusal.specs.declared.Refusal.{Refusal}
+use Rattle.refusal.specs.Answered.{number_of}
+use Rattle.refusal.proofs.AnsweredLaws.{some}
 use Rattle.text.specs.Text.{spaced}
 use Rattle.text.proofs.TextLaws.{integer-most}
 use Rattle.card.specs.declared.Card.{Card}
 use Rattle.card.specs.declared.Answer.{Answer}
+use Rattle.card.specs.Zero.{answer_of}
 use Rattle.codec.specs.Codec.{read_number, read_card, decode}
 use Rattle.listing.specs.Line.{line_most, numbers, refused_word, refused_line, card_line, line_of}
 
@@ -33,16 +38,16 @@ card-text c =
 
 -- ---- the line of a part by what was read of it
 
-pub line_refused : (s : List ℕ) (a : Answer) → a ≡ read_card s → (a.number ≡ 0 → ⊥) → refused_line a.number ≡ line_of s
+pub line_refused : (s : List ℕ) (d : Refusal) (n : ℕ) → answer_of (Err d) ≡ read_card s → n ≡ number_of d → refused_line n ≡ line_of s
 unfolding line_of read_card
-line_refused s a e n =
-    let f : a.number ≡ read_number s = ap (λ (b : Answer). b.number) e in
-    ap refused_line f ∙ sym (rw (ne_eqb (read_number s) 0 (λ z. n (f ∙ z))))
+line_refused s d n e k =
+    let f : number_of d ≡ read_number s = ap (λ (b : Answer). b.number) e in
+    ap refused_line (k ∙ f) ∙ sym (rw (ne_eqb (read_number s) 0 (λ z. some d (f ∙ z))))
 
-pub line_taken : (s : List ℕ) (a : Answer) → a ≡ read_card s → a.number ≡ 0 → card_line a.card ≡ line_of s
+pub line_taken : (s : List ℕ) (c : Card) → answer_of (Ok c) ≡ read_card s → card_line c ≡ line_of s
 unfolding line_of read_card
-line_taken s a e z =
-    let f : read_number s ≡ 0 = sym (ap (λ (b : Answer). b.number) e) ∙ z in
+line_taken s c e =
+    let f : read_number s ≡ 0 = sym (ap (λ (b : Answer). b.number) e) in
     ap (λ (b : Answer). card_line b.card) e ∙ rw f
 
 -- ---- a line has at most 120 bytes, and a buffer with room for it begins with it

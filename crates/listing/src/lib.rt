@@ -16,11 +16,10 @@ pub fn line(s: &[u8], out: &mut [u8]) -> usize
     ensures value { result ≡ length (T.line_of s.now) }
     ensures out_after { out.new ≡ O.splice out.old 0 (T.line_of s.now) }
 {
-    let answer = codec::read(s);
-    if answer.number != 0 {
-        return put_refused(out, answer.number);
+    match codec::read(s) {
+        Ok(card) => put_card(out, card),
+        Err(refusal) => put_refused(out, refusal.number()),
     }
-    put_card(out, answer.card)
 }
 
 // `refused`, the number, a line feed.
@@ -35,12 +34,10 @@ fn put_refused(out: &mut [u8], number: u32) -> usize
 
 // Site, frame, epoch, position, a line feed.
 fn put_card(out: &mut [u8], c: Card) -> usize
-    requires { length c.site ≡ 9 }
     ensures value { result ≡ length (T.card_line c) }
     ensures out_after { out.new ≡ O.splice out.old 0 (T.card_line c) }
 {
-    let site = c.site;
-    let s = text::put_bytes(out, 0, &site);
+    let s = text::put_bytes(out, 0, &c.site);
     let f = text::put_next(out, s, c.frame as i64);
     let e = text::put_next(out, f, c.epoch);
     let x = text::put_next(out, e, c.position.x);

@@ -1,16 +1,17 @@
 -- A vector and its whole length: each component is at most the length. A length in a range, and the same of the sum of squares: 0 where it is
 -- not in the range, else the length or the sum.
-use mathlib.Core.Path.{◌≡◌, refl, sym}
+use mathlib.Core.Path.{◌≡◌, refl}
 use mathlib.Core.Bool.{Bool, true, false, cond, ◌&&◌}
 use Prim.Native.Nat.{ℕ, ◌+◌, ◌*◌, ◌^◌, ◌≤◌, ◌<◌}
-use native.Mathlib.Nat.{le_trans, mul-le-mul}
+use native.Mathlib.Nat.{le_trans}
 use native.Mathlib.Omega.{arith}
-use borrow.Author.Tests.{leb-true, le-leb, lt-leb, lt-ltb, le-ltb}
-use lib.Dec.{leb, lit<, lit≤}
+use borrow.Author.Tests.{leb-true, le-leb, lt-leb, lt-ltb}
+use lib.Dec.{leb}
 use lib.IntN.{ℤ, nat_abs}
 use Rattle.algebra.proofs.BoolLaws.{and_left, and_right}
 use Rattle.numbers.specs.Root.{root}
-use Rattle.numbers.proofs.RootLaws.{root_is, root-same, root-least, root_below}
+use Rattle.numbers.proofs.RootLaws.{root-least, root_below}
+use Rattle.std.specs.Prelude.{Option, Some, None}
 use Rattle.mark.specs.declared.Vec3.{Vec3}
 use Rattle.mark.specs.Mark.{vec, squares, between, length_of, squares_within, length_within, squares_asked}
 use Rattle.mark.specs.Ranges.{Within}
@@ -50,6 +51,15 @@ some-inside : (b : Bool) (n : ℕ) → (cond b n 0 ≡ 0 → ⊥) → b ≡ true
 some-inside true n h = refl
 some-inside false n h = absurd (h refl)
 
+-- the same of what is none outside the range
+none-outside : (b : Bool) (n : ℕ) → ◌≡◌ {A = Option ℕ} (cond b (Some n) None) None → b ≡ false
+none-outside true n h = absurd (cc)
+none-outside false n h = refl
+
+one-inside : (b : Bool) (n k : ℕ) → ◌≡◌ {A = Option ℕ} (cond b (Some n) None) (Some k) → (b ≡ true) × (k ≡ n)
+one-inside true n k h = (refl, cc)
+one-inside false n k h = absurd (cc)
+
 module _ (low high : ℕ) (v : Vec3) where
   abbrev in-range : Bool
   in-range = between low high (length_of v)
@@ -66,40 +76,34 @@ module _ (low high : ℕ) (v : Vec3) where
   unfolding length_within
   length-is e = rw e
 
-  -- a length that is not 0 has squares that are not
-  pub squares-zero : 0 < low → squares_within low high v ≡ 0 → in-range ≡ false
-  unfolding squares_within length_of
-  squares-zero h e =
-      zero-outside in-range (squares v) (λ t. let l : 1 ≤ length_of v = omega (arith, at_least low high (length_of v) t) in omega (arith, mul-le-mul l l, (root_is (squares v)).below)) e
-
-  pub squares-some : (squares_within low high v ≡ 0 → ⊥) → in-range ≡ true
+  pub squares-none : squares_within low high v ≡ None → in-range ≡ false
   unfolding squares_within
-  squares-some h = some-inside in-range (squares v) h
+  squares-none e = none-outside in-range (squares v) e
 
-  pub squares-is : in-range ≡ true → squares_within low high v ≡ squares v
+  pub squares-some : (n : ℕ) → squares_within low high v ≡ Some n → (in-range ≡ true) × (n ≡ squares v)
   unfolding squares_within
-  squares-is e = rw e
+  squares-some n e = one-inside in-range (squares v) n e
 
   -- the range, in squares
-  pub squares-below : squares v < low * low → squares_within low high v ≡ 0
+  pub squares-below : squares v < low * low → squares_within low high v ≡ None
   unfolding squares_within length_of
   squares-below h = rw (lt-leb low (root (squares v)) (root_below (squares v) low h))
 
-  pub length_above : high < length_of v → squares_within low high v ≡ 0
+  pub length_above : high < length_of v → squares_within low high v ≡ None
   unfolding squares_within
   length_above h = rw (lt-leb (length_of v) high h) (no (leb low (length_of v)))
     where
-      no : (t : Bool) → cond (t && false) (squares v) 0 ≡ 0
+      no : (t : Bool) → ◌≡◌ {A = Option ℕ} (cond (t && false) (Some (squares v)) None) None
       no true = refl
       no false = refl
 
-  pub squares-above : high * (high + 2) < squares v → squares_within low high v ≡ 0
+  pub squares-above : high * (high + 2) < squares v → squares_within low high v ≡ None
   unfolding length_of
   squares-above h =
       let l : (high + 1) * (high + 1) ≤ squares v = omega arith in
       length_above (omega (arith, root-least (squares v) (high + 1) l))
 
-  pub squares-between : low * low ≤ squares v → squares v ≤ high * (high + 2) → squares_within low high v ≡ squares v
+  pub squares-between : low * low ≤ squares v → squares v ≤ high * (high + 2) → squares_within low high v ≡ Some (squares v)
   unfolding squares_within length_of
   squares-between l h =
       let k : squares v < (high + 1) * (high + 1) = omega arith in
@@ -107,7 +111,7 @@ module _ (low high : ℕ) (v : Vec3) where
       rw (le-leb low (root (squares v)) (root-least (squares v) low l), le-leb (root (squares v)) high m)
 
   -- a range the wrong way round holds nothing
-  pub no-range : high < low → squares_within low high v ≡ 0
+  pub no-range : high < low → squares_within low high v ≡ None
   unfolding squares_within
   no-range h = rw (none (leb low (length_of v)) (leb (length_of v) high) refl refl)
     where
@@ -120,14 +124,13 @@ module _ (low high : ℕ) (v : Vec3) where
   pub asked : high < 2 ^ 30 → squares_asked low high v ≡ squares_within low high v
   asked h = rw (lt-ltb high (2 ^ 30) h)
 
-  pub not-asked : 2 ^ 30 ≤ high → squares_asked low high v ≡ 0
-  not-asked h = rw (le-ltb high (2 ^ 30) h)
-
   -- the root of what is within
-  pub root-within : root (squares_within low high v) ≡ length_within low high v
-  unfolding squares_within length_within length_of
-  root-within = go in-range
-    where
-      go : (t : Bool) → root (cond t (squares v) 0) ≡ cond t (root (squares v)) 0
-      go true = refl
-      go false = sym (root-same 0 0 (record { below = lit≤ tt; above = lit< tt }))
+  pub root-within : (n : ℕ) → squares_within low high v ≡ Some n → root n ≡ length_within low high v
+  unfolding length_within length_of
+  root-within n e =
+      let k = squares-some n e in
+      rw (k.0, k.1)
+
+  pub outside-zero : squares_within low high v ≡ None → length_within low high v ≡ 0
+  unfolding length_within
+  outside-zero e = rw (squares-none e)

@@ -4,27 +4,24 @@ use mathlib.Core.Bool.{true, false, Bool}
 use Prim.Native.Nat.{ℕ, ◌≤◌}
 use native.Mathlib.Omega.{arith}
 use Rattle.refusal.specs.Refusal.{first}
+use Rattle.std.specs.Prelude.{Some, None}
+use Rattle.refusal.specs.declared.Refusal.{Refusal}
+use Rattle.refusal.specs.declared.Refusal.TheVariants as Is
+use Rattle.refusal.specs.Answered.{number_of}
+use Rattle.refusal.proofs.AnsweredLaws.{some, only}
 use Rattle.mark.specs.declared.Vec3.{Vec3}
 use Rattle.mark.specs.Mark.{length_of, marked, mark_number, squares_within, length_within}
 use Rattle.mark.specs.Ranges.{Within}
-use Rattle.mark.proofs.LengthLaws.{widen, within-length, at_least, at_most, length-zero, length_some, length-is, squares-zero, squares-some}
-
-pub unmarked : (m : Vec3) → length_within 6300000 6400000 m ≡ 0 → marked m ≡ false
-unfolding marked
-unmarked m e = length-zero 6300000 6400000 m (omega arith) e
-
-pub accepted : (m : Vec3) → (length_within 6300000 6400000 m ≡ 0 → ⊥) → marked m ≡ true
-unfolding marked
-accepted m h = length_some 6300000 6400000 m h
+use Rattle.mark.proofs.LengthLaws.{widen, within-length, at_least, at_most, length-is, squares-none, squares-some}
 
 -- the same, from the sum of squares
-pub squares-unmarked : (m : Vec3) → squares_within 6300000 6400000 m ≡ 0 → marked m ≡ false
+pub squares-unmarked : (m : Vec3) → squares_within 6300000 6400000 m ≡ None → marked m ≡ false
 unfolding marked
-squares-unmarked m e = squares-zero 6300000 6400000 m (omega arith) e
+squares-unmarked m e = squares-none 6300000 6400000 m e
 
-pub squares-accepted : (m : Vec3) → (squares_within 6300000 6400000 m ≡ 0 → ⊥) → marked m ≡ true
+pub squares-accepted : (m : Vec3) (n : ℕ) → squares_within 6300000 6400000 m ≡ Some n → marked m ≡ true
 unfolding marked
-squares-accepted m h = squares-some 6300000 6400000 m h
+squares-accepted m n e = (squares-some 6300000 6400000 m n e).0
 
 pub accepted-length : (m : Vec3) → marked m ≡ true → length_within 6300000 6400000 m ≡ length_of m
 unfolding marked
@@ -69,3 +66,13 @@ mark-refused m n e z = go (marked m) refl
     go : (t : Bool) → marked m ≡ t → t ≡ false
     go true p = absurd (z (e ∙ number-marked m p))
     go false p = refl
+
+-- ---- what the mark's check and its length answer
+
+pub check-refused : (m : Vec3) (e : Refusal) → number_of e ≡ mark_number m → (marked m ≡ false) × (e ≡ Is.Mark)
+check-refused m e h =
+    let u = mark-refused m (number_of e) h (some e) in
+    (u, only e Is.Mark (h ∙ number-unmarked m u))
+
+pub check-accepted : (m : Vec3) → 0 ≡ mark_number m → marked m ≡ true
+check-accepted m h = mark-accepted m 0 h refl

@@ -1,6 +1,7 @@
 -- The mark: x, y, z in whole metres. The root L of x² + y² + z² is from 6,300,000 to 6,400,000.
-use Rattle.std.specs.Prelude.{Bool, not, cond, ◌&&◌, [], ◌∷◌, ℕ, ◌+◌, ◌*◌, ◌^◌, leb, ltb, ℤ, pos, nat_abs, ◌+ℤ◌, ◌-ℤ◌, ◌*ℤ◌}
+use Rattle.std.specs.Prelude.{Bool, not, cond, ◌&&◌, [], ◌∷◌, ℕ, Option, Some, None, ◌+◌, ◌*◌, ◌^◌, leb, ltb, ℤ, pos, nat_abs, ◌+ℤ◌, ◌-ℤ◌, ◌*ℤ◌}
 use Rattle.refusal.specs.Refusal.{first}
+use Rattle.refusal.specs.Answered.{Answered}
 use Rattle.numbers.specs.Root.{root}
 use Rattle.mark.specs.declared.Vec3.{Vec3}
 
@@ -42,9 +43,9 @@ between low high n = leb low n && leb n high
 unfoldable pub marked : Vec3 → Bool
 marked m = between 6300000 6400000 (length_of m)
 
--- x² + y² + z² where the whole length lies from low to high, else 0
-unfoldable pub squares_within : ℕ → ℕ → Vec3 → ℕ
-squares_within low high v = cond (between low high (length_of v)) (squares v) 0
+-- x² + y² + z² where the whole length lies from low to high
+unfoldable pub squares_within : ℕ → ℕ → Vec3 → Option ℕ
+squares_within low high v = cond (between low high (length_of v)) (Some (squares v)) None
 
 -- the whole length where it lies from low to high, else 0
 unfoldable pub length_within : ℕ → ℕ → Vec3 → ℕ
@@ -55,12 +56,16 @@ abbrev pub mark_length : Vec3 → ℕ
 mark_length m = length_within 6300000 6400000 m
 
 -- what is answered for any range: one that goes to 2^30 or beyond is not asked for, and holds nothing
-abbrev pub squares_asked : ℕ → ℕ → Vec3 → ℕ
-squares_asked low high v = cond (ltb high (2 ^ 30)) (squares_within low high v) 0
+abbrev pub squares_asked : ℕ → ℕ → Vec3 → Option ℕ
+squares_asked low high v = cond (ltb high (2 ^ 30)) (squares_within low high v) None
 
 -- refusal 6: mark
 unfoldable pub mark_number : Vec3 → ℕ
 mark_number m = first ((6, not (marked m)) ∷ [])
+
+-- that number, and the whole length, which is 0 where the mark is refused
+abbrev pub mark_answer : Vec3 → Answered ℕ
+mark_answer m = record { number = mark_number m; value = mark_length m }
 
 -- each of three numbers is at most n in size
 unfoldable pub sized : ℕ → Vec3 → Bool

@@ -2,9 +2,15 @@
 #![tactic(auto)]
 
 ghost use Rattle.std.specs.Prelude.{◌≡◌};
+ghost use Rattle.refusal.specs.Answered as A;
 ghost use Rattle.mark.specs.Mark as M;
 
+use refusal::Refusal;
+
 mod squares;
+
+// Grains in a metre.
+pub const METRE: i64 = 1461000000;
 
 // The whole length of a mark, metres.
 const LEAST: u64 = 6300000;
@@ -12,41 +18,38 @@ const LEAST: u64 = 6300000;
 const MOST: u64 = 6400000;
 
 // Three numbers: whole metres of a mark, grains of a shift.
-#[derive(Clone, Copy)]
+#[derive(Clone, Copy, Debug, PartialEq, Eq)]
 pub struct Vec3 {
     pub x: i64,
     pub y: i64,
     pub z: i64,
 }
 
-// 6 where the mark's whole length is not from 6,300,000 to 6,400,000 metres, else 0.
-pub fn check_mark(m: Vec3) -> u32
-    ensures { result ≡ M.mark_number m }
+// Refused as `Mark` where the mark's whole length is not from 6,300,000 to 6,400,000 metres.
+pub fn check_mark(m: Vec3) -> Result<(), Refusal>
+    ensures { A.number result ≡ M.mark_number m }
 {
-    if squares::sum_within(m, LEAST, MOST) == 0 {
-        6
-    } else {
-        0
-    }
+    squares::sum_within(m, LEAST, MOST).ok_or(Refusal::Mark)?;
+    Ok(())
 }
 
-// The whole length of a mark, metres; 0 where the mark is refused.
-pub fn length_of(m: Vec3) -> u64
-    ensures { result ≡ M.mark_length m }
+// The whole length of a mark, metres, or `Mark`.
+pub fn length_of(m: Vec3) -> Result<u64, Refusal>
+    ensures { A.answered 0 result ≡ M.mark_answer m }
 {
-    numbers::root(squares::sum_within(m, LEAST, MOST))
+    let squares = squares::sum_within(m, LEAST, MOST).ok_or(Refusal::Mark)?;
+    Ok(numbers::root(squares))
 }
 
-// x² + y² + z² of v where its root lies from low to high, else 0. A range that goes to 2^30 or beyond holds nothing, so that no sum leaves
-// 64 bits.
-pub fn squares_within(v: Vec3, low: u64, high: u64) -> u64
+// x² + y² + z² of v where its root lies from low to high. A range that goes to 2^30 or beyond holds nothing, so that no sum leaves 64 bits.
+pub fn squares_within(v: Vec3, low: u64, high: u64) -> Option<u64>
     ensures { result ≡ M.squares_asked low high v }
 {
     if 1073741823 < high {
-        return 0;
+        return None;
     }
     if high < low {
-        return 0;
+        return None;
     }
     squares::sum_within(v, low, high)
 }
@@ -55,11 +58,5 @@ pub fn squares_within(v: Vec3, low: u64, high: u64) -> u64
 pub fn sized(v: Vec3, n: u64) -> bool
     ensures { result ≡ M.sized n v }
 {
-    if n < numbers::magnitude(v.x) {
-        return false;
-    }
-    if n < numbers::magnitude(v.y) {
-        return false;
-    }
-    numbers::magnitude(v.z) <= n
+    numbers::magnitude(v.x) <= n && numbers::magnitude(v.y) <= n && numbers::magnitude(v.z) <= n
 }

@@ -26,19 +26,28 @@ use Rattle.codec.proofs.OpenedLaws.{put-settled}
 use Rattle.field.specs.Field.{field_of, field_number, opened_of, expanded_of, expand_card, export_number, exported, field_length}
 use Rattle.netvjesha.specs.Face.{body_of, solid_call, exported_number, exported_out, expanded_number, expanded_out}
 use Rattle.netvjesha.specs.Steps.{labelled}
+use Rattle.std.specs.Prelude.{Ok, Err}
+use Rattle.refusal.specs.declared.Refusal.{Refusal}
+use Rattle.refusal.specs.Answered.{number_of}
+use Rattle.refusal.proofs.AnsweredLaws.{some}
+use Rattle.card.specs.Zero.{answer_of}
 
 -- ---- what a read gives
 
-pub number_read : (s : List ℕ) (a : Answer) → a ≡ read_card s → a.number ≡ read_number s
+pub number_read : (s : List ℕ) (e : Refusal) → answer_of (Err e) ≡ read_card s → number_of e ≡ read_number s
 unfolding read_card
-number_read s a e = ap (λ (x : Answer). x.number) e
+number_read s e q = ap (λ (x : Answer). x.number) q
+
+pub read-zero : (s : List ℕ) (c : Card) → answer_of (Ok c) ≡ read_card s → 0 ≡ read_number s
+unfolding read_card
+read-zero s c q = ap (λ (x : Answer). x.number) q
 
 taken-read : (s : List ℕ) → read_number s ≡ 0 → (read_card s).card ≡ decode s
 unfolding read_card
 taken-read s h = rw h
 
-pub card-read : (s : List ℕ) (a : Answer) → a ≡ read_card s → a.number ≡ 0 → a.card ≡ decode s
-card-read s a e h = ap (λ (x : Answer). x.card) e ∙ taken-read s (sym (number_read s a e) ∙ h)
+pub card-read : (s : List ℕ) (c : Card) → answer_of (Ok c) ≡ read_card s → c ≡ decode s
+card-read s c q = ap (λ (x : Answer). x.card) q ∙ taken-read s (sym (read-zero s c q))
 
 -- refused with n, the output is kept
 pub unchanged : {A : Type 0} (n m : ℕ) (new old : List A) → n ≡ m → (n ≡ 0 → ⊥) → (n ≡ m) × (old ≡ kept m new old)
@@ -103,25 +112,25 @@ module _ (s out : List ℕ) where
   unfolding exported_number exported_out
   export-short h = unchanged 1 _ _ out (too_short field_length (length out) (before (read_number s) (export_number (decode s) (length out))) h) one
 
-  pub export-unread : (a : Answer) → length out ≡ field_length → a ≡ read_card s → (a.number ≡ 0 → ⊥) → (a.number ≡ exported_number (length out) s) × (out ≡ exported_out out s)
+  pub export-unread : (d : Refusal) → length out ≡ field_length → answer_of (Err d) ≡ read_card s → (number_of d ≡ exported_number (length out) s) × (out ≡ exported_out out s)
   unfolding exported_number exported_out
-  export-unread a l r h =
-      let n = number_read s a r in
-      unchanged a.number _ _ out (n ∙ refused-before (read_number s) (export_number (decode s) (length out)) (λ z. h (n ∙ z)) ∙ long-enough field_length (length out) _ l) h
+  export-unread d l r =
+      let n = number_read s d r in
+      unchanged (number_of d) _ _ out (n ∙ refused-before (read_number s) (export_number (decode s) (length out)) (λ z. some d (n ∙ z)) ∙ long-enough field_length (length out) _ l) (some d)
 
   export_is : length out ≡ field_length → read_number s ≡ 0 → export_number (decode s) (length out) ≡ exported_number (length out) s
   unfolding exported_number
   export_is l h = passed-before (read_number s) (export_number (decode s) (length out)) h ∙ long-enough field_length (length out) (before (read_number s) (export_number (decode s) (length out))) l
 
-  pub export-called : (a : Answer) (n : ℕ) (e : List ℕ) → length out ≡ field_length → a ≡ read_card s → a.number ≡ 0
-      → n ≡ export_number a.card (length out) → e ≡ exported a.card out
+  pub export-called : (c : Card) (n : ℕ) (e : List ℕ) → length out ≡ field_length → answer_of (Ok c) ≡ read_card s
+      → n ≡ export_number c (length out) → e ≡ exported c out
       → (n ≡ exported_number (length out) s) × (e ≡ exported_out out s)
   unfolding exported exported_out
-  export-called a n e l r h p q =
-      let d = card-read s a r h in
-      let i = export_is l (sym (number_read s a r) ∙ h) in (
-        p ∙ ap (λ (c : Card). export_number c (length out)) d ∙ i,
-        q ∙ ap (λ (c : Card). exported c out) d ∙ ap (λ (m : ℕ). kept m (field_of (decode s)) out) i,
+  export-called c n e l r p q =
+      let d = card-read s c r in
+      let i = export_is l (sym (read-zero s c r)) in (
+        p ∙ ap (λ (x : Card). export_number x (length out)) d ∙ i,
+        q ∙ ap (λ (x : Card). exported x out) d ∙ ap (λ (m : ℕ). kept m (field_of (decode s)) out) i,
       )
 
   pub expand-called : (b : Answer) (n : ℕ) (e : List ℕ) → b ≡ expand_card s → (n ≡ put_number b (length out)) × (e ≡ put_out b out)

@@ -1,4 +1,3 @@
 -- The laws of the C face.
 pub mod FaceLaws
 pub mod TripleLaws
-pub mod PackLaws

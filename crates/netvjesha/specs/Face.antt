@@ -4,7 +4,6 @@ use Rattle.std.specs.Prelude.{cond, List, [], ◌∷◌, ℕ, ◌+◌, ◌*◌, 
 use Rattle.refusal.specs.Outputs.{before, roomy, kept}
 use Rattle.mark.specs.declared.Vec3.{Vec3}
 use Rattle.mark.specs.Mark.{mark_number}
-use Rattle.series.specs.declared.Rows.{Rows}
 use Rattle.tides.specs.declared.BodyVector.{BodyVector}
 use Rattle.tides.specs.declared.Body.{Body}
 use Rattle.tides.specs.declared.Body.TheVariants.{Moon, Sun}
@@ -53,7 +52,7 @@ unfoldable pub metres_number : ℕ → List ℕ → ℕ
 metres_number room s = roomy 3 room (read_number s)
 
 unfoldable pub metres_out : List Float → List ℕ → List Float
-metres_out out s = kept (metres_number (length out) s) (three_metres (metres_of (decode s))) out
+metres_out out s = kept (metres_number (length out) s) (three_metres (metres_of (decode s)).value) out
 
 -- ---- three numbers, the permanent shift in grains
 
@@ -69,9 +68,9 @@ unfoldable pub packed : ℕ → ℕ → ℕ
 packed number place = number + 256 * (place % 2 ^ 56)
 
 -- a series: the rows, or the bad row
-abbrev pub packed_rows : Rows → ℕ
-packed_rows r = packed r.number r.row
+abbrev pub packed_rows : ℕ × ℕ → ℕ
+packed_rows r = packed r.0 r.1
 
 -- a whole catalogue: the cards, or the bad card
 unfoldable pub checked_catalogue : List ℕ → ℕ
-checked_catalogue s = packed (check_answer s).number (check_answer s).place
+checked_catalogue s = packed (check_answer s).0 (check_answer s).1

@@ -2,7 +2,8 @@
 // call's. A refused call writes nothing. include/netvjesha.h declares these functions.
 #![tactic(auto)]
 
-ghost use Rattle.std.specs.Prelude.{◌≡◌, ◌<◌, length};
+ghost use Rattle.std.specs.Prelude.{◌≡◌, length};
+ghost use Rattle.refusal.specs.Answered as A;
 ghost use Rattle.mark.specs.Mark as M;
 ghost use Rattle.series.specs.Series as S;
 ghost use Rattle.card.specs.Calls as L;
@@ -14,6 +15,7 @@ ghost use Rattle.netvjesha.specs.Steps as P;
 
 use field::FIELD_LENGTH;
 use mark::Vec3;
+use refusal::{Refusal, Refused};
 use tides::{Body, BodyVector};
 
 // A body by its label, 1 a Sun and 0 a Moon, where both labels of the call are such. Else a Moon at `none`, and two Moons are no pair.
@@ -32,12 +34,54 @@ fn labelled(la: u32, lb: u32, label: u32, none: BodyVector, v: BodyVector) -> Bo
     Body::Moon(v)
 }
 
-// A number below 256 and a place in one: number + 256 x place, exact below 2^56 places.
-fn packed(number: u32, place: usize) -> u64
-    requires { number < 256 }
-    ensures { result ≡ F.packed number place }
+// A number and a count or place in one: number + 256 x place, exact below 2^56 places.
+fn packed(answer: Result<usize, Refused>) -> u64
+    ensures { result ≡ F.packed_rows (A.counted answer) }
 {
-    number as u64 + 256 * (place as u64 % 72057594037927936)
+    let (number, place) = match answer {
+        Ok(count) => (0, count),
+        Err(refused) => (refused.refusal.number(), refused.place),
+    };
+    u64::from(number) + 256 * (place as u64 % 72057594037927936)
+}
+
+// The field edition of a card's record, into a buffer.
+fn put_edition(s: &[u8], edition: &mut [u8]) -> Result<(), Refusal>
+    ensures value { A.number result ≡ F.exported_number (length edition.old) s.now }
+    ensures edition_after { edition.new ≡ F.exported_out edition.old s.now }
+{
+    let fits = edition.len() == FIELD_LENGTH;
+    if !fits {
+        return Err(Refusal::Length);
+    }
+    let card = codec::read(s)?;
+    field::export(card, edition)
+}
+
+// Where a record's card stands from its mark, metres, into three doubles.
+fn put_metres(s: &[u8], out: &mut [f64]) -> Result<(), Refusal>
+    ensures value { A.number result ≡ F.metres_number (length out.old) s.now }
+    ensures out_after { out.new ≡ F.metres_out out.old s.now }
+{
+    if out.len() != 3 {
+        return Err(Refusal::Length);
+    }
+    let m = field::metres_out(codec::read(s)?)?;
+    out.copy_from_slice(&[m.x, m.y, m.z]);
+    Ok(())
+}
+
+// The permanent shift at a mark, grains, into three numbers.
+fn put_permanent(m: Vec3, out: &mut [i64]) -> Result<(), Refusal>
+    ensures value { A.number result ≡ F.permanent_number (length out.old) m }
+    ensures out_after { out.new ≡ F.permanent_out out.old m }
+{
+    if out.len() != 3 {
+        return Err(Refusal::Length);
+    }
+    let d = tides::permanent(m)?;
+    out.copy_from_slice(&[d.x, d.y, d.z]);
+    Ok(())
 }
 
 // The number of a card's bytes: 1 to 9, or 0.
@@ -45,7 +89,7 @@ fn packed(number: u32, place: usize) -> u64
 pub extern "C" fn nv_check(s: &[u8]) -> u32
     ensures { result ≡ C.read_number s.now }
 {
-    codec::check(s)
+    refusal::number_of(codec::check(s))
 }
 
 // Moves a card by d quarter-days.
@@ -132,14 +176,7 @@ pub extern "C" fn nv_export(s: &[u8], edition: &mut [u8]) -> u32
     ensures value { result ≡ F.exported_number (length edition.old) s.now }
     ensures edition_after { edition.new ≡ F.exported_out edition.old s.now }
 {
-    if edition.len() != FIELD_LENGTH {
-        return 1;
-    }
-    let a = codec::read(s);
-    if a.number != 0 {
-        return a.number;
-    }
-    field::export(a.card, edition)
+    refusal::number_of(put_edition(s, edition))
 }
 
 // Expands a field record, 48 bytes, into a card.
@@ -148,7 +185,7 @@ pub extern "C" fn nv_expand(edition: &[u8], out: &mut [u8]) -> u32
     ensures value { result ≡ F.expanded_number (length out.old) edition.now }
     ensures out_after { out.new ≡ F.expanded_out out.old edition.now }
 {
-    codec::put(field::expand(edition), out)
+    codec::put(field::expand(edition).into(), out)
 }
 
 // Where a card stands from its mark: three doubles, metres.
@@ -157,22 +194,7 @@ pub extern "C" fn nv_metres(s: &[u8], out: &mut [f64]) -> u32
     ensures value { result ≡ F.metres_number (length out.old) s.now }
     ensures out_after { out.new ≡ F.metres_out out.old s.now }
 {
-    if out.len() != 3 {
-        return 1;
-    }
-    let a = codec::read(s);
-    if a.number != 0 {
-        return a.number;
-    }
-    let c = a.card;
-    let m = field::metres_out(c);
-    let x = m.x;
-    let y = m.y;
-    let z = m.z;
-    out[0] = x;
-    out[1] = y;
-    out[2] = z;
-    0
+    refusal::number_of(put_metres(s, out))
 }
 
 // The permanent shift at a mark in whole metres: three numbers, grains. 1 output, 6 mark.
@@ -181,21 +203,7 @@ pub extern "C" fn nv_permanent(x: i64, y: i64, z: i64, out: &mut [i64]) -> u32
     ensures value { result ≡ F.permanent_number (length out.old) (M.vec x y z) }
     ensures out_after { out.new ≡ F.permanent_out out.old (M.vec x y z) }
 {
-    if out.len() != 3 {
-        return 1;
-    }
-    let s = tides::permanent(Vec3 { x, y, z });
-    if s.number != 0 {
-        return s.number;
-    }
-    let d = s.shift;
-    let dx = d.x;
-    let dy = d.y;
-    let dz = d.z;
-    out[0] = dx;
-    out[1] = dy;
-    out[2] = dz;
-    0
+    refusal::number_of(put_permanent(Vec3 { x, y, z }, out))
 }
 
 // The solid tides of many rows at a mark: six doubles to a row in, three numbers to a row out. Number + 256 x (rows, or the bad row).
@@ -204,8 +212,7 @@ pub extern "C" fn nv_series(x: i64, y: i64, z: i64, bodies: &[f64], out: &mut [i
     ensures value { result ≡ F.packed_rows (S.series_answer (M.vec x y z) bodies.now (length out.old)) }
     ensures out_after { out.new ≡ S.series_numbers (M.vec x y z) bodies.now out.old }
 {
-    let done = series::series(Vec3 { x, y, z }, bodies, out);
-    packed(done.number, done.row)
+    packed(series::series(Vec3 { x, y, z }, bodies, out))
 }
 
 // The check of a whole catalogue: number + 256 x place, the place of the first bad card counted in cards from 0. 14 comes with place 0;
@@ -214,8 +221,7 @@ pub extern "C" fn nv_series(x: i64, y: i64, z: i64, bodies: &[f64], out: &mut [i
 pub extern "C" fn nv_check_catalogue(records: &[u8]) -> u64
     ensures { result ≡ F.checked_catalogue records.now }
 {
-    let checked = catalogue::check(records);
-    packed(checked.number, checked.place)
+    packed(catalogue::check(records))
 }
 
 // Where the first record with the key's nine bytes begins in a catalogue, in bytes. Refused, the catalogue's length.
@@ -223,7 +229,7 @@ pub extern "C" fn nv_check_catalogue(records: &[u8]) -> u64
 pub extern "C" fn nv_find(records: &[u8], key: &[u8]) -> usize
     ensures { result ≡ K.find_place records.now key.now }
 {
-    catalogue::find_place(records, key)
+    catalogue::find_place(records, key).unwrap_or(records.len())
 }
 
 // The number of that lookup: 2, then 14, then 15, and 0 when found.
@@ -231,5 +237,5 @@ pub extern "C" fn nv_find(records: &[u8], key: &[u8]) -> usize
 pub extern "C" fn nv_find_number(records: &[u8], key: &[u8]) -> u32
     ensures { result ≡ K.find_number records.now key.now }
 {
-    catalogue::find_number(records, key)
+    refusal::number_of(catalogue::find_place(records, key))
 }

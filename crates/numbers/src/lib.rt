@@ -2,15 +2,30 @@
 #![tactic(auto)]
 
 ghost use Rattle.std.specs.Prelude.{◌≡◌, ◌+◌, ◌*◌, ◌^◌, ◌≤◌, ◌<◌, nat_abs};
-ghost use Rattle.std.specs.Float.Ieee.{of_bits};
-ghost use Rattle.std.specs.Float.{binary64};
 ghost use Rattle.numbers.specs.Near as N;
 ghost use Rattle.numbers.specs.Root as R;
 ghost use Rattle.numbers.specs.Whole as W;
 
+use std::num::f64_to_bits_with_nan;
+
+// The greatest size that is not far: 2^30.
+const FARTHEST: u64 = 1 << 30;
+
+// The sign's place in a double's 64 bits.
+const SIGN: u64 = 1 << 63;
+
+// The leading one's place, above the 52 digits: where the exponent begins.
+const LEADING: u64 = 1 << 52;
+
+// The exponent of what is infinite or not a number.
+const NO_NUMBER: u64 = 2047;
+
+// The exponent from a half up to one.
+const HALF: u64 = 1022;
+
 // What a double is as a whole number: the number, that it lies past 2^30 on either side, or that it is infinite or not a
 // number.
-#[derive(Clone, Copy)]
+#[derive(Clone, Copy, Debug, PartialEq, Eq)]
 pub enum Rounded {
     NotFinite,
     Far,
@@ -21,11 +36,7 @@ pub enum Rounded {
 pub fn magnitude(z: i64) -> u64
     ensures { result ≡ nat_abs z }
 {
-    if z < 0 {
-        // -(z + 1) fits where -z need not
-        return (-(z + 1)) as u64 + 1;
-    }
-    z as u64
+    z.unsigned_abs()
 }
 
 // near(a/b): the nearest whole number to a/b, an exact half to the even neighbour; by 0 it is 0.
@@ -33,12 +44,10 @@ pub fn near(a: i64, b: u64) -> i64
     ensures { result ≡ N.near a b }
 {
     let n = nearest(magnitude(a), b);
-    if a < 0 {
-        if n == 0 {
-            return 0;
-        }
-        // -(n - 1) fits where n need not
-        return -((n - 1) as i64) - 1;
+    let negative = a < 0;
+    if negative {
+        // -n by its bits, since n may be 2^63
+        return n.wrapping_neg().cast_signed();
     }
     n as i64
 }
@@ -58,23 +67,43 @@ pub fn root(n: u64) -> u64
         if rest < trial {
             found = half;
         } else {
-            rest = rest - trial;
+            rest -= trial;
             // half + bit; as a difference it is ready before the test, and the compiler makes no jump
             found = trial - half;
         }
-        bit = bit >> 2;
+        bit >>= 2;
     }
     found
 }
 
-// The whole number nearest to x, an exact half to the even neighbour, from its bits.
+// The whole number nearest to x, an exact half to the even neighbour, from its bits: the sign, 11 bits of exponent, 52 of digits.
 pub fn whole(x: f64) -> Rounded
     ensures { W.Means result (W.whole_of x) }
 {
-    if x != x {
+    let b = f64_to_bits_with_nan(x);
+    let exponent = b % SIGN / LEADING;
+    if exponent == NO_NUMBER {
         return Rounded::NotFinite;
     }
-    whole_of_bits(f64::to_bits(x))
+    // 2^31 and beyond
+    if HALF + 31 < exponent {
+        return Rounded::Far;
+    }
+    if exponent < HALF {
+        return Rounded::Number(0);
+    }
+    // the 52 digits and the leading one, in units of 2^(exponent - HALF - 53)
+    let digits = b % LEADING + LEADING;
+    let n = nearest(digits, 1u64 << (HALF + 53 - exponent));
+    if FARTHEST < n {
+        return Rounded::Far;
+    }
+    let negative = SIGN <= b;
+    if negative {
+        Rounded::Number(-(n as i64))
+    } else {
+        Rounded::Number(n as i64)
+    }
 }
 
 // near(n/b) of two naturals: one more than the quotient above a half, and at a half where the quotient is odd. Both are one test, so that the compiler makes
@@ -88,33 +117,4 @@ fn nearest(n: u64, b: u64) -> u64
     let q = n / b;
     let r = n % b;
     if b - r < r + q % 2 { q + 1 } else { q }
-}
-
-// The same as `whole`, of the double's 64 bits: the sign, 11 bits of exponent, 52 of digits.
-fn whole_of_bits(b: u64) -> Rounded
-    ensures { result ≡ W.shown (W.whole_of (of_bits binary64 b)) }
-{
-    let exponent = b % 9223372036854775808 / 4503599627370496;
-    if exponent == 2047 {
-        return Rounded::NotFinite;
-    }
-    // 2^31 and beyond
-    if 1053 < exponent {
-        return Rounded::Far;
-    }
-    // below a half
-    if exponent < 1022 {
-        return Rounded::Number(0);
-    }
-    // the 52 digits and the leading one, in units of 2^(exponent - 1075)
-    let digits = b % 4503599627370496 + 4503599627370496;
-    let n = nearest(digits, 1u64 << (1075 - exponent));
-    if 1073741824 < n {
-        return Rounded::Far;
-    }
-    if b < 9223372036854775808 {
-        Rounded::Number(n as i64)
-    } else {
-        Rounded::Number(-(n as i64))
-    }
 }

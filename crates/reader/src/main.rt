@@ -4,27 +4,25 @@
 use catalogue::Taken;
 use std::io;
 use std::io::{Read, Write};
+use streams::Turn;
 
-// The loop has to end, and nothing says that the input does: it counts up to a number that no run reaches.
 fn main(rt: HostRuntime) -> io::Result<()> {
-    let mut input = rt.stdin();
-    let mut output = rt.stdout();
-    for _ in 0..u64::MAX {
-        if !answer_one(&mut input, &mut output)? {
-            break;
-        }
-    }
-    Ok(())
+    streams::take_turns(&Program, &mut rt.stdin(), &mut rt.stdout())
 }
 
-// Reads one vector and writes its line; false where no whole header is left. A read or a write that fails is handed on.
-fn answer_one<R: Read, W: Write>(input: &mut R, output: &mut W) -> io::Result<bool> {
-    let mut space = [0u8; 65536];
-    let v = wire::read(input, &mut space)?;
-    if v.more {
-        answer(output, wire::first(&space, v.length))?;
+// A turn for each vector.
+#[derive(Clone, Copy)]
+struct Program;
+
+impl Turn for Program {
+    fn take<R: Read, W: Write>(&self, input: &mut R, output: &mut W) -> io::Result<bool> {
+        let mut space = [0u8; wire::MOST];
+        let Some(vector) = wire::read(input, &mut space)? else {
+            return Ok(false);
+        };
+        answer(output, &space[..vector.length])?;
+        Ok(true)
     }
-    Ok(v.more)
 }
 
 // The line is written a step at a time.
@@ -42,12 +40,6 @@ fn answer<W: Write>(output: &mut W, s: &[u8]) -> io::Result<()> {
 
 fn write_taken<W: Write>(output: &mut W, t: Taken) -> io::Result<()> {
     let mut out = [0u8; 4096];
-    let mut end = 0usize;
-    if t.done {
-        end = text::put_bytes(&mut out, 0, b"done ");
-    } else {
-        end = wire::put_number(&mut out, 0, t.number);
-    }
-    let whole = wire::put_card(&mut out, end, t.card);
-    output.write_all(wire::first(&out, whole))
+    let end = wire::put_step(&mut out, 0, t.found);
+    output.write_all(wire::first(&out, end))
 }

@@ -6,6 +6,10 @@ use Prim.Native.Nat.{ℕ, zero, suc}
 use native.Mathlib.Omega.{arith}
 use lib.Dec.{eqb}
 use lib.ListN.{length, get_or}
+use Rattle.std.specs.Prelude.{Ok, Err}
+use Rattle.refusal.specs.declared.Refusal.{Refusal}
+use Rattle.refusal.specs.Answered.{number_of}
+use Rattle.refusal.proofs.AnsweredLaws.{some}
 use Rattle.refusal.specs.Outputs.{before, roomy, kept}
 use Rattle.refusal.specs.Refusal.{first}
 use Rattle.refusal.proofs.OutputLaws.{refused-before, passed-before, keeps}
@@ -14,6 +18,7 @@ use Rattle.card.specs.declared.Card.{Card}
 use Rattle.card.specs.declared.Answer.{Answer}
 use Rattle.card.specs.Calls.{Call, next, call_number, settle, own, step}
 use Rattle.card.specs.Checks.{checks, card_number}
+use Rattle.card.specs.Zero.{answer_of}
 use Rattle.codec.specs.Codec.{encode, decode, read_number, card_length}
 use Rattle.codec.specs.Opened.{opened_number, opened_for, put_number, put_out}
 use Rattle.codec.proofs.OpenedLaws.{number-opened, card-opened, number-held, put-settled}
@@ -37,24 +42,24 @@ unopened false w r m h = refl
 
 -- ---- a call on a card's bytes
 
-module _ (s out : List ℕ) (o : Answer) (q : o ≡ opened_for (length out) s) where
-  pub bytes-unopened : (k : Call) → (o.number ≡ 0 → ⊥) → (o.number ≡ bytes_number (length out) s k) × (out ≡ bytes_out out s k)
+module _ (s out : List ℕ) where
+  pub bytes-unopened : (d : Refusal) → answer_of (Err d) ≡ opened_for (length out) s → (k : Call) → (number_of d ≡ bytes_number (length out) s k) × (out ≡ bytes_out out s k)
   unfolding opened_number bytes_number bytes_out roomy
-  bytes-unopened k h =
-      let n = number-opened (length out) s o q in
-      let e = n ∙ unopened (eqb (length out) card_length) (eqb (length s) card_length && eqb (get_or s 11 0) 0) (read_number s) (call_number (decode s) k) (λ z. h (n ∙ z)) in
-      (e, keeps o.number (bytes_number (length out) s k) (encode (next (decode s) k)) out e h)
+  bytes-unopened d q k =
+      let n = number-opened (length out) s d q in
+      let e = n ∙ unopened (eqb (length out) card_length) (eqb (length s) card_length && eqb (get_or s 11 0) 0) (read_number s) (call_number (decode s) k) (λ z. some d (n ∙ z)) in
+      (e, keeps (number_of d) (bytes_number (length out) s k) (encode (next (decode s) k)) out e (some d))
 
-  module _ (z : o.number ≡ 0) (k : Call) (a : Answer) (e : a ≡ step o.card k) where
+  module _ (c : Card) (q : answer_of (Ok c) ≡ opened_for (length out) s) (k : Call) (a : Answer) (e : a ≡ step c k) where
     stepped : a ≡ step (decode s) k
-    stepped = e ∙ ap (λ (x : Card). step x k) (card-opened (length out) s o q z)
+    stepped = e ∙ ap (λ (x : Card). step x k) (card-opened (length out) s c q)
 
     -- the buffer's length, then the call's number, which begins with the record's
     number-stepped : roomy card_length (length out) (call_number (decode s) k) ≡ bytes_number (length out) s k
     unfolding bytes_number
     number-stepped =
         ap (roomy card_length (length out))
-        (number-before k (decode s) ∙ ap (λ (n : ℕ). before n (call_number (decode s) k)) (sym (number-held (length out) s o q z)))
+        (number-before k (decode s) ∙ ap (λ (n : ℕ). before n (call_number (decode s) k)) (sym (number-held (length out) s c q)))
 
     pub bytes-stepped : (n : ℕ) (w : List ℕ) → (n ≡ put_number a (length out)) × (w ≡ put_out a out) → (n ≡ bytes_number (length out) s k) × (w ≡ bytes_out out s k)
     unfolding step settle put_number bytes_out

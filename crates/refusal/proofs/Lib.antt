@@ -1,4 +1,5 @@
 -- The laws of refusals: exactly when, one table after another, and what an output holds.
+pub mod AnsweredLaws
 pub mod RefusalLaws
 pub mod FirstLaws
 pub mod OutputLaws

@@ -125,17 +125,9 @@ past (e ∷ t) u h = choose_no e.1 e.0 (first (t ++ u)) (h 0 (omega arith)) ∙ 
 pub onward : (t u : Table) → positive t ≡ true → first t ≡ 0 → first (t ++ u) ≡ first u
 onward t u p q = past t u ((accepted t p).0 q)
 
-pub passed : (n : ℕ) (b : Bool) (t : Table) → b ≡ true → first t ≡ first ((n, not b) ∷ t)
-unfolding first
-passed n b t e = rw e
-
 pub stopped : (n : ℕ) (b : Bool) (t : Table) → b ≡ false → n ≡ first ((n, not b) ∷ t)
 unfolding first
 stopped n b t e = rw e
-
-pub passed-last : (n : ℕ) (b : Bool) → b ≡ true → 0 ≡ first ((n, not b) ∷ [])
-unfolding first
-passed-last n b e = rw e
 
 -- ---- a table that starts with the length
 

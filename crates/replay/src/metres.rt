@@ -3,22 +3,18 @@ use crate::records;
 use field::Metres;
 
 pub fn answer(s: &[u8], out: &mut [u8]) -> usize {
-    put_metres(out, field::metres_out(records::raw_card(s)))
-}
-
-fn put_metres(out: &mut [u8], m: Metres) -> usize {
-    let mut end = text::put_natural(out, 0, m.number as u64);
-    end = put_bits(out, end, bits_of(m.x));
-    end = put_bits(out, end, bits_of(m.y));
-    put_bits(out, end, bits_of(m.z))
+    let answer = field::metres_out(records::raw_card(s));
+    let mut end = text::put_natural(out, 0, refusal::number_of(answer) as u64);
+    let m = answer.unwrap_or(Metres::zeros());
+    for x in [m.x, m.y, m.z] {
+        end = put_bits(out, end, bits_of(x));
+    }
+    end
 }
 
 // A double's bits. A NaN, which metres out never gives, has those of one.
 fn bits_of(x: f64) -> u64 {
-    if x != x {
-        return u64::MAX;
-    }
-    f64::to_bits(x)
+    if x.is_nan() { u64::MAX } else { x.to_bits() }
 }
 
 // 16 hex digits, with a space before them.

@@ -1,38 +1,21 @@
-// Kinds 8 to 11: read, write, export, expand.
-use card::{Answer, Card};
+// Kinds 9 and 10: write, export. And the card that a payload of kinds 9, 10, 12 and 13 holds.
+use card::Card;
+use refusal::Refusal;
 
-pub fn answer_card(kind: u64, s: &[u8], out: &mut [u8]) -> usize {
-    let r = card_of(kind, s);
-    let end = wire::put_number(out, 0, r.number);
-    wire::put_card(out, end, r.card)
-}
-
-fn card_of(kind: u64, s: &[u8]) -> Answer {
-    if kind == 8 {
-        return codec::read(s);
-    }
-    field::expand(s)
-}
-
-// A card written into a lent buffer, as a card or as its field edition.
-pub fn answer_buffer(kind: u64, s: &[u8], out: &mut [u8]) -> usize {
+// A card written into a lent buffer by `write`: as a card, or as its field edition.
+pub fn answer_buffer<F: Fn(Card, &mut [u8]) -> Result<(), Refusal>>(
+    s: &[u8],
+    out: &mut [u8],
+    write: F,
+) -> usize
+    requires { F.IsAlwaysCallable write }
+{
     let mut space = [0xEEu8; 200];
     let n = wire::at_most(octets::unsigned_at(s, 0, 4), 200);
-    put_written(kind, wire::from(s, 4), &mut space[..n], out)
-}
-
-fn put_written(kind: u64, s: &[u8], space: &mut [u8], out: &mut [u8]) -> usize {
-    let number = written(kind, s, space);
-    let end = wire::put_number(out, 0, number);
-    wire::put_run(out, end, space)
-}
-
-fn written(kind: u64, s: &[u8], space: &mut [u8]) -> u32 {
-    let c = raw_card(s);
-    if kind == 9 {
-        return codec::write(c, space);
-    }
-    field::export(c, space)
+    let buffer = &mut space[..n];
+    let written = write(raw_card(wire::from(s, 4)), buffer);
+    let end = wire::put_number(out, 0, refusal::number_of(written));
+    wire::put_run(out, end, buffer)
 }
 
 // The card of 115 bytes.

@@ -2,49 +2,30 @@
 #![tactic(auto)]
 
 use std::io;
-use std::io::{Read, Write};
+use wire::{Answers, Kind};
 
 mod rounding;
 mod shifts;
 
-// The loop has to end, and nothing says that the input does: it counts up to a number that no run reaches.
 fn main(rt: HostRuntime) -> io::Result<()> {
-    let mut input = rt.stdin();
-    let mut output = rt.stdout();
-    for _ in 0..u64::MAX {
-        if !answer_one(&mut input, &mut output)? {
-            break;
+    wire::answer_all(&Program, &mut rt.stdin(), &mut rt.stdout())
+}
+
+#[derive(Clone, Copy)]
+struct Program;
+
+impl Answers for Program {
+    // A kind that is not here gets an empty line.
+    fn put_answer(&self, kind: Kind, s: &[u8], line: &mut [u8]) -> usize {
+        match kind {
+            Kind::Near => rounding::answer_near(s, line),
+            Kind::Root => rounding::answer_root(s, line),
+            Kind::Whole => rounding::answer_whole(s, line),
+            Kind::Permanent => shifts::answer_permanent(s, line),
+            Kind::Rows => shifts::answer_rows(s, line),
+            Kind::Pair => shifts::answer_pair(s, line),
+            Kind::Series => shifts::answer_series(s, line),
+            _ => 0,
         }
-    }
-    Ok(())
-}
-
-// Reads one vector and writes its line; false where no whole header is left. A read or a write that fails is handed on.
-fn answer_one<R: Read, W: Write>(input: &mut R, output: &mut W) -> io::Result<bool> {
-    let mut space = [0u8; 65536];
-    let v = wire::read(input, &mut space)?;
-    if v.more {
-        write_line(output, v.kind, wire::first(&space, v.length))?;
-    }
-    Ok(v.more)
-}
-
-// Makes a vector's line in a buffer, and writes it at once.
-fn write_line<W: Write>(output: &mut W, kind: u64, s: &[u8]) -> io::Result<()> {
-    let mut line = [0u8; 65536];
-    let end = answer(kind, s, &mut line);
-    let whole = text::put_bytes(&mut line, end, b"\n");
-    output.write_all(wire::first(&line, whole))
-}
-
-// Puts the vector's line but for its end, and answers its length. A kind that is not here gets an empty line.
-fn answer(kind: u64, s: &[u8], out: &mut [u8]) -> usize {
-    match kind {
-        1..=3 => rounding::answer(kind, s, out),
-        4 => shifts::answer_permanent(s, out),
-        5 => shifts::answer_rows(s, out),
-        6 => shifts::answer_pair(s, out),
-        7 => shifts::answer_series(s, out),
-        _ => 0,
     }
 }

@@ -1,23 +1,28 @@
 // Kinds 4 to 7: the permanent shift, a frame's two rows, the tide of a pair, a series.
+use frames::Terms;
 use mark::Vec3;
 
+// What comes with a refusal.
+const ZEROS: Vec3 = Vec3 { x: 0, y: 0, z: 0 };
+
 pub fn answer_permanent(s: &[u8], out: &mut [u8]) -> usize {
-    let r = tides::permanent(layout::vector_at(s, 0, 8));
-    put_bare(out, r.shift)
+    let shift = tides::permanent(layout::vector_at(s, 0, 8));
+    put_bare(out, shift.unwrap_or(ZEROS))
 }
 
 pub fn answer_rows(s: &[u8], out: &mut [u8]) -> usize {
-    let r = frames::frame_terms(layout::vector_at(s, 1, 8), wire::byte_at(s, 0));
-    let end = put_bare(out, r.a);
-    wire::put_vector(out, end, r.b)
+    let answer = frames::frame_terms(layout::vector_at(s, 1, 8), wire::byte_at(s, 0));
+    let terms = answer.unwrap_or(Terms { a: ZEROS, b: ZEROS });
+    let end = put_bare(out, terms.a);
+    wire::put_vector(out, end, terms.b)
 }
 
 pub fn answer_pair(s: &[u8], out: &mut [u8]) -> usize {
     let first = wire::body_at(s, 24);
     let second = wire::body_at(s, 49);
-    let r = tides::solid_tide(layout::vector_at(s, 0, 8), first, second);
-    let end = text::put_natural(out, 0, r.number as u64);
-    wire::put_vector(out, end, r.shift)
+    let shift = tides::solid_tide(layout::vector_at(s, 0, 8), first, second);
+    let end = text::put_natural(out, 0, refusal::number_of(shift) as u64);
+    wire::put_vector(out, end, shift.unwrap_or(ZEROS))
 }
 
 pub fn answer_series(s: &[u8], out: &mut [u8]) -> usize {
@@ -30,27 +35,23 @@ pub fn answer_series(s: &[u8], out: &mut [u8]) -> usize {
 
 fn put_series(s: &[u8], doubles: &mut [f64], numbers: &mut [i64], out: &mut [u8]) -> usize {
     read_doubles(wire::from(s, 32), doubles);
-    let r = series::series(layout::vector_at(s, 0, 8), doubles, numbers);
-    let mut end = wire::put_number(out, 0, r.number);
-    end = text::put_natural(out, end, r.row as u64);
+    let rows = series::series(layout::vector_at(s, 0, 8), doubles, numbers);
+    let end = wire::put_count(out, 0, rows);
     put_numbers(out, end, numbers)
 }
 
-// Fills a run of at most 600 doubles.
+// Fills a run of doubles from the bytes' start on. One that is past their end stays as it is.
 fn read_doubles(s: &[u8], out: &mut [f64]) {
-    if 600 < out.len() {
-        return;
-    }
-    for i in 0..out.len() {
-        out[i] = octets::double_at(s, 8 * i);
+    for (x, bytes) in out.iter_mut().zip(s.chunks(8)) {
+        *x = octets::double_at(bytes, 0);
     }
 }
 
 // The numbers, with a space before each.
 fn put_numbers(out: &mut [u8], at: usize, s: &[i64]) -> usize {
     let mut end = at;
-    for i in 0..s.len() {
-        end = text::put_next(out, end, s[i]);
+    for z in s {
+        end = text::put_next(out, end, *z);
     }
     end
 }

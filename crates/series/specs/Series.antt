@@ -7,7 +7,6 @@ use Rattle.mark.specs.declared.Vec3.{Vec3}
 use Rattle.mark.specs.Mark.{marked}
 use Rattle.tides.specs.declared.BodyVector.{BodyVector}
 use Rattle.tides.specs.Tide.{bodies_number, tide}
-use Rattle.series.specs.declared.Rows.{Rows}
 
 -- three doubles from place `at`
 unfoldable pub body_at : List Float → ℕ → BodyVector
@@ -28,20 +27,14 @@ rows_fit doubles numbers = eqb doubles (6 * (numbers / 3)) && eqb numbers (3 * (
 unfoldable pub row_number : List Float → ℕ → ℕ
 row_number bodies i = bodies_number (moon_at bodies i) (sun_at bodies i)
 
-abbrev pub answer : ℕ → ℕ → Rows
-answer n i = record { number = n; row = i }
-
-abbrev pub rows_of : ℕ × ℕ → Rows
-rows_of bad = answer bad.0 bad.1
-
 -- the first bad row of the k rows from row i on, with its number; else 0 and the number of rows
-unfoldable pub scan : List Float → ℕ → ℕ → Rows
-scan bodies i k = rows_of (first_bad (row_number bodies) i k)
+unfoldable pub scan : List Float → ℕ → ℕ → ℕ × ℕ
+scan bodies i k = first_bad (row_number bodies) i k
 
--- 6 and 16 come with 0
-unfoldable pub series_answer : Vec3 → List Float → ℕ → Rows
+-- a number and a row: 6 and 16 come with 0
+unfoldable pub series_answer : Vec3 → List Float → ℕ → ℕ × ℕ
 series_answer m bodies numbers =
-    cond (marked m) (cond (rows_fit (length bodies) numbers) (scan bodies 0 (numbers / 3)) (answer 16 0)) (answer 6 0)
+    cond (marked m) (cond (rows_fit (length bodies) numbers) (scan bodies 0 (numbers / 3)) (16, 0)) (6, 0)
 
 abbrev pub three : Vec3 → List ℤ
 three v = v.x ∷ v.y ∷ v.z ∷ []
@@ -53,4 +46,4 @@ tides_from m bodies i (suc k) = three (tide m (moon_at bodies i) (sun_at bodies 
 
 -- what the lent numbers hold after the call: the tides, or what they held before
 unfoldable pub series_numbers : Vec3 → List Float → List ℤ → List ℤ
-series_numbers m bodies out = kept (series_answer m bodies (length out)).number (tides_from m bodies 0 (length out / 3)) out
+series_numbers m bodies out = kept (series_answer m bodies (length out)).0 (tides_from m bodies 0 (length out / 3)) out

@@ -2,11 +2,11 @@
 use mathlib.Core.Path.{◌≡◌, refl, sym, ap, ◌∙◌}
 use mathlib.Core.Bool.{Bool, true, false, cond}
 use mathlib.Core.List.{List, [], ◌∷◌, ◌++◌}
-use Prim.Native.Nat.{ℕ, zero, suc, ◌+◌, ◌-◌, ◌*◌, ◌/◌, ◌%◌, ◌^◌, ◌≤◌, ◌<◌}
-use native.Mathlib.Nat.{pow-suc}
+use Prim.Native.Nat.{ℕ, zero, suc, ◌+◌, ◌*◌, ◌/◌, ◌%◌, ◌^◌, ◌≤◌, ◌<◌, max}
+use native.Mathlib.Nat.{pow-suc, one-le-pow}
 use native.Mathlib.Omega.{arith}
 use borrow.Author.Tests.{lt-ltb, le-ltb, ltb-true, ltb-false}
-use lib.Dec.{ltb}
+use lib.Dec.{ltb, lit<}
 use lib.ListN.{length, length-append}
 use lib.Seq.{set_out}
 use lib.IntN.{ℤ, pos, negsuc}
@@ -45,24 +45,18 @@ pub places-most : (n : ℕ) → places n ≤ 20
 unfolding places
 places-most n = places-in 19 n
 
--- a number that has more digits: one fewer is left of its quotient
-pub record More (k n : ℕ) : Type 0 where
-  pub left : 0 < k
-  pub small : n / 10 < 10 ^ k
-  pub step : places_in k n ≡ suc (places_in (k - 1) (n / 10))
+-- n lies between two powers of ten; 0 has the one place that 1 has
+places-between : (k j n : ℕ) → k ≤ j → 10 ^ k ≤ max n 1 → max n 1 < 10 * 10 ^ k → places_in j n ≡ suc k
+places-between zero j n l h g = places-last j n (omega arith)
+places-between (suc k) zero n l h g = absurd (omega arith)
+places-between (suc k) (suc j) n l h g =
+    let p = pow-suc 10 k in
+    let o = one-le-pow k 10 (lit< tt) in
+    places-step j n (omega arith) ∙ ap suc (places-between k j (n / 10) (omega arith) (omega arith) (omega arith))
 
-pub more : (k n : ℕ) → 10 ≤ n → n < 10 ^ (k + 1) → More k n
-more zero n h l = absurd (omega arith)
-more (suc k) n h l =
-    let e : suc k + 1 ≡ suc (suc k) = omega arith in
-    let f : suc k - 1 ≡ k = omega arith in
-    let p = pow-suc 10 (suc k) in
-    let l' : n < 10 ^ suc (suc k) = rw e at l in
-    record {
-      left = omega arith;
-      small = omega arith;
-      step = rw f (places-step k n h);
-    }
+pub places_log : (n m k : ℕ) → m ≡ max n 1 → 10 ^ k ≤ m → m < 10 * 10 ^ k → k < 20 → k + 1 ≡ places n
+unfolding places
+places_log n m k e h g l = omega (arith, places-between k 19 n (omega arith) (omega arith) (omega arith))
 
 -- ---- the length of a text
 

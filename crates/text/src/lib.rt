@@ -6,9 +6,6 @@ ghost use Rattle.std.specs.Prelude.{◌≡◌, length};
 ghost use Rattle.octets.specs.Octets as O;
 ghost use Rattle.text.specs.Text as T;
 
-// The greatest place.
-const LAST_PLACE: usize = 18446744073709551615;
-
 // The digits of n, the last one first.
 pub fn put_natural(out: &mut [u8], at: usize, n: u64) -> usize
     ensures value { result ≡ T.after at (length (T.natural n)) }
@@ -16,11 +13,9 @@ pub fn put_natural(out: &mut [u8], at: usize, n: u64) -> usize
 {
     let count = places(n);
     let mut rest = n;
-    let mut left = count;
-    while 0 < left {
-        left -= 1;
-        octets::put_byte(out, at, left, 48 + (rest % 10) as u8);
-        rest = rest / 10;
+    for i in (0..count).rev() {
+        octets::put_byte(out, at, i, b'0' + (rest % 10) as u8);
+        rest /= 10;
     }
     after(at, count)
 }
@@ -61,42 +56,33 @@ pub fn put_hex(out: &mut [u8], at: usize, s: &[u8]) -> usize
     ensures value { result ≡ T.after at (length (T.hex_of s.now)) }
     ensures out_after { out.new ≡ O.splice out.old at (T.hex_of s.now) }
 {
-    let mut i = 0usize;
-    while i < s.len() {
-        octets::put_byte(out, at, 2 * i, hex_digit(s[i] / 16));
-        octets::put_byte(out, at, 2 * i + 1, hex_digit(s[i]));
-        i += 1;
+    for (i, b) in s.iter().enumerate() {
+        octets::put_byte(out, at, 2 * i, hex_digit(*b / 16));
+        octets::put_byte(out, at, 2 * i + 1, hex_digit(*b));
     }
     after(at, 2 * s.len())
 }
 
 // How many digits n has.
+#[tactic(auto, using(crate::proofs::TextLaws::places_log))]
 fn places(n: u64) -> usize
     ensures { result ≡ T.places n }
 {
-    let mut rest = n;
-    let mut count = 1usize;
-    while 10 <= rest {
-        rest = rest / 10;
-        count += 1;
-    }
-    count
+    n.max(1).ilog10() as usize + 1
 }
 
 // The last hex digit of d.
+#[tactic(auto, unfolding(crate::specs::Text::hex_digit))]
 fn hex_digit(d: u8) -> u8
     ensures { result ≡ T.hex_digit d }
 {
     let k = d % 16;
-    if k < 10 { 48 + k } else { 87 + k }
+    if k < 10 { b'0' + k } else { b'a' + (k - 10) }
 }
 
 // The place n after `at`.
 fn after(at: usize, n: usize) -> usize
     ensures { result ≡ T.after at n }
 {
-    if LAST_PLACE - at < n {
-        return LAST_PLACE;
-    }
-    at + n
+    at.saturating_add(n)
 }

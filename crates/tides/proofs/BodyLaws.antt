@@ -1,32 +1,36 @@
 -- The two bodies of a tide: either order gives the same answer; what is seen of an accepted body.
 use mathlib.Core.Path.{◌≡◌, refl, sym, ap, ◌∙◌}
 use mathlib.Core.Logic.{◌⊎◌, inl, inr}
-use mathlib.Core.Bool.{Bool, true, false, not, cond, ◌&&◌, true≢false, and-false}
+use mathlib.Core.Bool.{Bool, true, false, not, cond, ◌&&◌, and-false}
 use Prim.Native.Nat.{ℕ, ◌^◌, ◌<◌}
 use native.Mathlib.Nat.{lt_of_lt_of_le}
 use native.Mathlib.Omega.{arith}
-use borrow.Author.Tests.{eqb-true, eqb-false, leb-false, lt-leb}
+use borrow.Author.Tests.{leb-false, lt-leb}
 use lib.Dec.{leb, eqb, lit<}
 use lib.IntN.{ℤ, pos, nat_abs}
+use Rattle.std.specs.Prelude.{Result, Ok, Err}
+use Rattle.algebra.proofs.BoolLaws.{both}
+use Rattle.refusal.specs.declared.Refusal.{Refusal}
+use Rattle.refusal.specs.declared.Refusal.TheVariants.{BodyNotFinite, BodyDistance}
+use Rattle.refusal.specs.Answered.{Answered, number, number_of}
+use Rattle.refusal.proofs.AnsweredLaws.{kept}
 use Rattle.refusal.specs.Refusal.{choose, first}
 use Rattle.mark.specs.declared.Vec3.{Vec3}
-use Rattle.mark.specs.Mark.{nowhere, each, marked, between, length_of, squares_within}
+use Rattle.mark.specs.Mark.{nowhere, each, marked, between, length_of}
 use Rattle.mark.specs.Ranges.{Within}
-use Rattle.mark.proofs.LengthLaws.{vec≡, within-length, squares-zero, squares-some}
+use Rattle.mark.proofs.LengthLaws.{vec≡, within-length, at_least, at_most}
 use Rattle.tides.specs.declared.BodyVector.{BodyVector}
 use Rattle.tides.specs.declared.Body.{Body}
 use Rattle.tides.specs.declared.Body.TheVariants.{Moon, Sun}
-use Rattle.tides.specs.declared.Shift.{Shift}
 use Rattle.tides.specs.declared.bodies.Sight.{Sight}
-use Rattle.tides.specs.Bodies.{wholes, finite, in_reach, paired, moon_of, sun_of}
-use Rattle.tides.specs.Steps.{clipped, sight_of, both_of}
+use Rattle.tides.specs.Bodies.{moon, sun, wholes, finite, in_reach, paired, moon_of, sun_of}
+use Rattle.tides.specs.Steps.{Reached, clipped, seen, sight_of, sights_of}
 use Rattle.tides.specs.Tide.{tide, bodies_number, tide_number, tide_answer}
-use Rattle.mark.specs.Mark as Mark
 
 -- ---- either order
 
 -- 6 or 17: no shift comes with it, whatever the bodies are
-unpaired : (b : Bool) (s t : Vec3) → ◌≡◌ {A = Shift} (record { number = choose b 6 17; shift = cond (eqb (choose b 6 17) 0) s nowhere }) (record { number = choose b 6 17; shift = cond (eqb (choose b 6 17) 0) t nowhere })
+unpaired : (b : Bool) (s t : Vec3) → ◌≡◌ {A = Answered Vec3} (record { number = choose b 6 17; value = cond (eqb (choose b 6 17) 0) s nowhere }) (record { number = choose b 6 17; value = cond (eqb (choose b 6 17) 0) t nowhere })
 unpaired true s t = refl
 unpaired false s t = refl
 
@@ -36,34 +40,6 @@ either_order m (Moon v) (Moon w) = unpaired (not (marked m)) (tide m v w) (tide 
 either_order m (Moon v) (Sun w) = refl
 either_order m (Sun v) (Moon w) = refl
 either_order m (Sun v) (Sun w) = unpaired (not (marked m)) (tide m w v) (tide m v w)
-
--- ---- an accepted body
-
--- a body that is seen with 0: finite, in reach, and the values are its wholes and their length
-pub record Sighted (low high : ℕ) (v : BodyVector) : Type 0 where
-  pub sound : finite v ≡ true
-  pub near : between low high (length_of (wholes v)) ≡ true
-  pub at : (sight_of low high v).at ≡ wholes v
-  pub squares : (sight_of low high v).squares ≡ Mark.squares (wholes v)
-
-accepted : (f g : Bool) → choose (not f) 10 (choose (not g) 11 0) ≡ 0 → (f ≡ true) × (g ≡ true)
-accepted true true e = (refl, refl)
-accepted true false e = absurd (eqb-false 11 0 refl e)
-accepted false g e = absurd (eqb-false 10 0 refl e)
-
-seen_at : (w : Vec3) (f g : Bool) → f ≡ true → g ≡ true → cond (f && g) w nowhere ≡ w
-seen_at w f g p q = rw (p, q)
-
-seen-squares : (n : ℕ) (f g : Bool) → f ≡ true → g ≡ true → cond (f && g) n 0 ≡ n
-seen-squares n f g p q = rw (p, q)
-
-pub sighted : (low high : ℕ) (v : BodyVector) → (sight_of low high v).number ≡ 0 → Sighted low high v
-unfolding sight_of first
-sighted low high v e =
-    let f : Bool = finite v in
-    let g : Bool = between low high (length_of (wholes v)) in
-    let h = accepted f g e in
-    record { sound = h.0; near = h.1; at = seen_at (wholes v) f g h.0 h.1; squares = seen-squares (Mark.squares (wholes v)) f g h.0 h.1 }
 
 -- ---- a component past 2^30 stands for every one: it is out of reach as well
 
@@ -97,52 +73,65 @@ not-between : (low high n : ℕ) → high < 2 ^ 30 → 2 ^ 30 < n → between lo
 not-between low high n h l = rw (lt-leb n high (omega arith)) (and-false (leb low n))
 
 module _ (low high : ℕ) (v : Vec3) (h : high < 2 ^ 30) where
-  -- the clipped vector has no length in the range: no more has the vector
-  pub clipped-out : 0 < low → squares_within low high (each clipped v) ≡ 0 → between low high (length_of v) ≡ false
-  clipped-out l e = go (clip-each v)
+  -- the clipped vector is in reach where the vector is, and then it is the vector itself
+  pub clipped-sight : sight_of low high (each clipped v) ≡ sight_of low high v
+  unfolding sight_of
+  clipped-sight = go (clip-each v)
     where
-      go : (each clipped v ≡ v) ⊎ ((2 ^ 30 < length_of v) × (2 ^ 30 < length_of (each clipped v))) → between low high (length_of v) ≡ false
-      go (inl p) = squares-zero low high v l (sym (ap (squares_within low high) p) ∙ e)
-      go (inr p) = not-between low high (length_of v) h p.0
-
-  -- it has one: it is the vector itself
-  pub clipped-in : (squares_within low high (each clipped v) ≡ 0 → ⊥) → (between low high (length_of v) ≡ true) × (each clipped v ≡ v)
-  clipped-in f = go (clip-each v)
-    where
-      some : between low high (length_of (each clipped v)) ≡ true
-      some = squares-some low high (each clipped v) f
-
-      go : (each clipped v ≡ v) ⊎ ((2 ^ 30 < length_of v) × (2 ^ 30 < length_of (each clipped v))) → (between low high (length_of v) ≡ true) × (each clipped v ≡ v)
-      go (inl p) = (sym (ap (λ (w : Vec3). between low high (length_of w)) p) ∙ some, p)
-      go (inr p) = absurd (true≢false (sym some ∙ not-between low high (length_of (each clipped v)) h p.1))
+      go : (each clipped v ≡ v) ⊎ ((2 ^ 30 < length_of v) × (2 ^ 30 < length_of (each clipped v))) → sight_of low high (each clipped v) ≡ sight_of low high v
+      go (inl p) = ap (sight_of low high) p
+      go (inr p) = rw (not-between low high (length_of v) h p.0, not-between low high (length_of (each clipped v)) h p.1)
 
 -- ---- a Moon and a Sun together
 
-merged : (fv gv fw gw : Bool) → both_of (choose (not fv) 10 (choose (not gv) 11 0)) (choose (not fw) 10 (choose (not gw) 11 0)) ≡ choose (not (fv && fw)) 10 (choose (not (gv && gw)) 11 0)
-unfolding both_of
-merged true true true true = refl
-merged true true true false = refl
-merged true true false gw = refl
-merged true false true true = refl
-merged true false true false = refl
-merged true false false gw = refl
-merged false gv fw gw = refl
+numbered : (f g : Bool) (s : Sight × Sight) → number (cond f (cond g (Ok s) (Err BodyDistance)) (Err BodyNotFinite)) ≡ choose (not f) 10 (choose (not g) 11 0)
+numbered true true s = refl
+numbered true false s = refl
+numbered false g s = refl
 
--- the refusal of both, from what is seen of each
-pub both-numbers : (v w : BodyVector) → both_of (sight_of 350000000 410000000 v).number (sight_of 146000000 153000000 w).number ≡ bodies_number v w
-unfolding sight_of bodies_number in_reach first
-both-numbers v w = merged (finite v) (between 350000000 410000000 (length_of (wholes v))) (finite w) (between 146000000 153000000 (length_of (wholes w)))
+found : (f g : Bool) (s t : Sight × Sight) → ◌≡◌ {A = Result (Sight × Sight) Refusal} (cond f (cond g (Ok s) (Err BodyDistance)) (Err BodyNotFinite)) (Ok t) → (g ≡ true) × (t ≡ s)
+found true g s t h = kept g s t BodyDistance h
+found false g s t h = absurd (cc)
 
--- the same, as the steps find it
-pub together : (v w : BodyVector) (p q : Sight) (n : ℕ) → p ≡ sight_of 350000000 410000000 v → q ≡ sight_of 146000000 153000000 w → n ≡ both_of p.number q.number → n ≡ bodies_number v w
-together v w p q n ep eq en = en ∙ rw (ep, eq) (both-numbers v w)
+-- an accepted pair: in reach, and the values are their wholes
+pub record Sighted (v w : BodyVector) (s t : Sight) : Type 0 where
+  pub number : bodies_number v w ≡ 0
+  pub moon_at : s.at ≡ wholes v
+  pub sun_at : t.at ≡ wholes w
+  pub moon_reached : Reached 350000000 410000000 s
+  pub sun_reached : Reached 146000000 153000000 t
 
-both-zero-at : (a b c : Bool) (v w : ℕ) → eqb v 10 ≡ a → eqb w 10 ≡ b → eqb v 0 ≡ c → cond a 10 (cond b 10 (cond c w v)) ≡ 0 → (v ≡ 0) × (w ≡ 0)
-both-zero-at true b c v w p q r e = absurd (eqb-false 10 0 refl e)
-both-zero-at false true c v w p q r e = absurd (eqb-false 10 0 refl e)
-both-zero-at false false true v w p q r e = (eqb-true v 0 r, e)
-both-zero-at false false false v w p q r e = absurd (eqb-false v 0 r e)
+reached-at : (low high : ℕ) (s : Sight) (w : Vec3) → s ≡ seen w → between low high (length_of w) ≡ true → Reached low high s
+reached-at low high s w e h =
+    rw e (record {
+      squares = refl;
+      least = at_least low high (length_of w) h;
+      most = at_most low high (length_of w) h;
+    })
 
-pub both_zero : (v w : ℕ) → both_of v w ≡ 0 → (v ≡ 0) × (w ≡ 0)
-unfolding both_of
-both_zero v w e = both-zero-at (eqb v 10) (eqb w 10) (eqb v 0) v w refl refl refl e
+module _ (v w : BodyVector) where
+  -- the refusal of both
+  pub sights-number : number (sights_of v w) ≡ bodies_number v w
+  unfolding sights_of bodies_number first
+  sights-number = numbered (finite v && finite w) (in_reach moon v && in_reach sun w) (seen (wholes v), seen (wholes w))
+
+  pub refused : (e : Refusal) → Err e ≡ sights_of v w → number_of e ≡ bodies_number v w
+  refused e h = ap number h ∙ sights-number
+
+  pub sighted : (s t : Sight) → Ok (s, t) ≡ sights_of v w → Sighted v w s t
+  unfolding sights_of in_reach
+  sighted s t h =
+      let k = found (finite v && finite w) (in_reach moon v && in_reach sun w) (seen (wholes v), seen (wholes w)) (s, t) (sym h) in
+      let r = both (in_reach moon v) (in_reach sun w) k.0 in
+      let p : s ≡ seen (wholes v) = ap (λ (q : Sight × Sight). q.0) k.1 in
+      let q : t ≡ seen (wholes w) = ap (λ (q : Sight × Sight). q.1) k.1 in
+      record {
+        number = sym (refused-none h);
+        moon_at = ap (λ (x : Sight). x.at) p;
+        sun_at = ap (λ (x : Sight). x.at) q;
+        moon_reached = reached-at 350000000 410000000 s (wholes v) p r.0;
+        sun_reached = reached-at 146000000 153000000 t (wholes w) q r.1;
+      }
+    where
+      refused-none : Ok (s, t) ≡ sights_of v w → ◌≡◌ {A = ℕ} 0 (bodies_number v w)
+      refused-none e = ap number e ∙ sights-number

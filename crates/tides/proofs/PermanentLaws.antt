@@ -1,16 +1,19 @@
--- The permanent shift: what it answers at an accepted and at a refused mark, and how large it is.
-use mathlib.Core.Path.{◌≡◌, refl}
-use mathlib.Core.Bool.{true, false}
+-- The permanent shift: an accepted mark as the steps ask for it, how large the shift is, and what is answered at an accepted mark.
+use mathlib.Core.Path.{◌≡◌, refl, ap, ◌∙◌}
+use mathlib.Core.Bool.{true}
 use Prim.Native.Nat.{◌^◌, ◌≤◌}
 use lib.Dec.{lit≤}
 use lib.IntN.{ℤ, pos, negsuc, nat_abs, ◌+ℤ◌, ◌-ℤ◌, ◌*ℤ◌}
 use Rattle.algebra.proofs.Machine.{plain, lit, v+, v-, v*}
+use Rattle.std.specs.Prelude.{Err}
+use Rattle.refusal.specs.declared.Refusal.{Refusal}
+use Rattle.refusal.specs.Answered.{Answered, answered}
+use Rattle.refusal.proofs.AnsweredLaws.{some}
 use Rattle.mark.specs.declared.Vec3.{Vec3}
 use Rattle.mark.specs.Mark.{nowhere, length_of, marked}
 use Rattle.mark.specs.Ranges.{Within}
 use Rattle.mark.proofs.LengthLaws.{widen, at_least}
-use Rattle.mark.proofs.MarkLaws.{accepted-within, number-marked, number-unmarked}
-use Rattle.tides.specs.declared.Shift.{Shift}
+use Rattle.mark.proofs.MarkLaws.{accepted-within, number-marked}
 use Rattle.tides.specs.Direction.{units, E, legendre}
 use Rattle.tides.specs.Permanent.{permanent, permanent_answer, s2, latitude, small, radial, north, down, across, along, permanent_of}
 use Rattle.tides.specs.Steps.{Direction}
@@ -25,14 +28,6 @@ accepted-wide m e = widen (accepted-within m e) (lit≤ tt)
 pub accepted-direction : (m : Vec3) → marked m ≡ true → Direction (units (length_of m) m)
 unfolding marked
 accepted-direction m e = mark-direction (length_of m) m refl (at_least 6300000 6400000 (length_of m) e)
-
-pub permanent-accepted : (m : Vec3) (s : Vec3) → marked m ≡ true → s ≡ permanent m → ◌≡◌ {A = Shift} (record { number = 0; shift = s }) (permanent_answer m)
-unfolding permanent_answer
-permanent-accepted m s e h = rw (number-marked m e, e, h)
-
-pub permanent-refused : (m : Vec3) → marked m ≡ false → ◌≡◌ {A = Shift} (record { number = 6; shift = nowhere }) (permanent_answer m)
-unfolding permanent_answer
-permanent-refused m e = rw (number-unmarked m e, e)
 
 -- ---- how large it is
 
@@ -86,6 +81,11 @@ permanent-within m = shift-within (units (length_of m) m) (direction-within (len
 
 -- ---- what is answered at an accepted mark
 
-pub shift_is : (m : Vec3) (s : Shift) → marked m ≡ true → s ≡ permanent_answer m → s.shift ≡ permanent m
+pub shift_is : (m : Vec3) (s : Answered Vec3) → marked m ≡ true → s ≡ permanent_answer m → s.value ≡ permanent m
 unfolding permanent_answer
 shift_is m s e q = rw (q, e)
+
+-- at an accepted mark the shift is never refused
+pub shift-never : (m : Vec3) (e : Refusal) → marked m ≡ true → answered nowhere (Err e) ≡ permanent_answer m → ⊥
+unfolding permanent_answer
+shift-never m e h q = some e (ap (λ x. x.number) q ∙ number-marked m h)

@@ -1,21 +1,25 @@
 -- How a body in reach stands, how large each body's part is, and so the tide, of which each component stays under 1 m.
-use mathlib.Core.Path.{◌≡◌, refl}
+use mathlib.Core.Path.{◌≡◌, refl, ap}
 use mathlib.Core.Bool.{true}
 use Prim.Native.Nat.{ℕ, ◌*◌, ◌≤◌, ◌<◌}
 use native.Mathlib.Omega.{arith}
 use lib.Dec.{T, lit≤}
 use lib.IntN.{nat_abs}
 use Rattle.algebra.proofs.BoolLaws.{holds, passes}
+use Rattle.std.specs.Prelude.{Err}
+use Rattle.refusal.specs.declared.Refusal.{Refusal}
+use Rattle.refusal.specs.Answered.{number_of, answered}
 use Rattle.mark.specs.declared.Vec3.{Vec3}
-use Rattle.mark.specs.Mark.{between, length_of, marked}
+use Rattle.mark.specs.Mark.{nowhere, between, length_of, marked}
 use Rattle.mark.specs.Ranges.{Within}
 use Rattle.mark.proofs.LengthLaws.{at_least}
 use Rattle.mark.proofs.SizeLaws.{plus-small}
 use Rattle.mark.proofs.MarkLaws.{mark-long}
+use Rattle.tides.specs.declared.Body.{Body}
 use Rattle.tides.specs.declared.BodyVector.{BodyVector}
 use Rattle.tides.specs.Direction.{units}
 use Rattle.tides.specs.Bodies.{Kind, moon, third_k0, sun, wholes, in_reach}
-use Rattle.tides.specs.Tide.{standing, standing_at, degree_two, degree_three, moon_part, sun_part, tide_at, tide}
+use Rattle.tides.specs.Tide.{standing, standing_at, degree_two, degree_three, moon_part, sun_part, tide_at, tide, tide_number, tide_answer}
 use Rattle.tides.specs.Steps.{Direction, Stood}
 use Rattle.tides.proofs.DirectionLaws.{direction-within, mark-direction, body-sum, cosine-bound}
 use Rattle.tides.proofs.DegreeTwoLaws.{nearness-bound, moon-strength, sun-strength, degree-two-small}
@@ -93,3 +97,8 @@ tide-within m v w e h k =
       y = omega (arith, t.y);
       z = omega (arith, t.z);
     }
+
+-- a refusal's number is the tide's
+pub tide-refused : (m : Vec3) (a b : Body) (e : Refusal) → answered nowhere (Err e) ≡ tide_answer m a b → number_of e ≡ tide_number m a b
+unfolding tide_answer
+tide-refused m a b e h = ap (λ x. x.number) h

@@ -5,7 +5,7 @@
 use Rattle.std.specs.Prelude.{cond, ℤ, pos, neg_ℤ, ◌+ℤ◌, ◌-ℤ◌, ◌*ℤ◌}
 use Rattle.mark.specs.declared.Vec3.{Vec3}
 use Rattle.mark.specs.Mark.{vec, nowhere, length_of, marked, mark_number}
-use Rattle.tides.specs.declared.Shift.{Shift}
+use Rattle.refusal.specs.Answered.{Answered}
 use Rattle.tides.specs.Direction.{times, units, legendre}
 
 -- s2 = near(uz uz/E)
@@ -55,5 +55,5 @@ unfoldable pub permanent : Vec3 → Vec3
 permanent m = permanent_of (units (length_of m) m)
 
 -- the answer for any mark: refusal 6 comes with no shift
-unfoldable pub permanent_answer : Vec3 → Shift
-permanent_answer m = record { number = mark_number m; shift = cond (marked m) (permanent m) nowhere }
+unfoldable pub permanent_answer : Vec3 → Answered Vec3
+permanent_answer m = record { number = mark_number m; value = cond (marked m) (permanent m) nowhere }

@@ -1,19 +1,17 @@
 -- What the private steps ask for and answer, in the words of the paper's definitions. No promise to the outside cites these.
-use Rattle.std.specs.Prelude.{◌≡◌, not, cond, ◌&&◌, [], ◌∷◌, ℕ, ◌+◌, ◌*◌, ◌≤◌, ◌^◌, eqb, leb, nat_abs, ℤ, pos, ◌+ℤ◌, ◌*ℤ◌, Float}
-use Rattle.refusal.specs.Refusal.{first}
+use Rattle.std.specs.Prelude.{◌≡◌, cond, ◌&&◌, Result, Ok, Err, ℕ, ◌+◌, ◌*◌, ◌≤◌, ◌^◌, leb, nat_abs, ℤ, pos, ◌+ℤ◌, ◌*ℤ◌, Float}
+use Rattle.refusal.specs.declared.Refusal.{Refusal}
+use Rattle.refusal.specs.declared.Refusal.TheVariants.{BodyNotFinite, BodyDistance}
 use Rattle.mark.specs.declared.Vec3.{Vec3}
-use Rattle.mark.specs.Mark.{squares, nowhere, length_of, each, between}
+use Rattle.mark.specs.Mark.{squares, length_of, each, between}
 use Rattle.mark.specs.Mark as Mark
 use Rattle.mark.specs.Ranges.{Within}
 unfoldable pub use Rattle.mark.specs.Mark.{plus}
 use Rattle.tides.specs.declared.BodyVector.{BodyVector}
-use Rattle.tides.specs.declared.Shift.{Shift}
 use Rattle.tides.specs.declared.bodies.Sight.{Sight}
 use Rattle.tides.specs.declared.solid.Standing.{Standing}
-use Rattle.tides.specs.declared.bodies.Coordinate.{Coordinate}
-use Rattle.tides.specs.declared.bodies.Wholes.{Wholes}
 use Rattle.tides.specs.Direction.{E}
-use Rattle.tides.specs.Bodies.{wholes, finite, is_number, number_of}
+use Rattle.tides.specs.Bodies.{wholes, finite, is_number, number_of, in_reach, moon, sun}
 use Rattle.numbers.specs.Near.{near}
 use Rattle.numbers.specs.Whole.{whole_of}
 
@@ -38,31 +36,26 @@ pub record Reached (low high : ℕ) (s : Sight) : Type 0 where
   pub least : low ≤ length_of s.at
   pub most : length_of s.at ≤ high
 
--- a refusal comes with no shift
-abbrev pub refused_with : ℕ → Shift
-refused_with n = record { number = n; shift = nowhere }
-
--- what is seen of a body: 10 not finite, 11 out of reach, or its whole vector and the sum of its squares
-unfoldable pub sight_of : ℕ → ℕ → BodyVector → Sight
-sight_of low high v =
-    let w = wholes v in
-    let ok = finite v && between low high (length_of w) in
-    record {
-      number = first ((10, not (finite v)) ∷ (11, not (between low high (length_of w))) ∷ []);
-      at = cond ok w nowhere;
-      squares = cond ok (squares w) 0;
-    }
-
 -- a number past 2^30 in size stands for every one: no length so large is in reach
 unfoldable pub clipped : ℤ → ℤ
 clipped z = cond (leb (nat_abs z) (2 ^ 30)) z (pos (2 ^ 31))
 
-unfoldable pub coordinate_of : Float → Coordinate
-coordinate_of x = record { finite = is_number (whole_of x); value = clipped (number_of (whole_of x)) }
+-- a double as a whole number, or 10
+unfoldable pub coordinate_of : Float → Result ℤ Refusal
+coordinate_of x = cond (is_number (whole_of x)) (Ok (clipped (number_of (whole_of x)))) (Err BodyNotFinite)
 
-unfoldable pub wholes_of : BodyVector → Wholes
-wholes_of v = record { finite = finite v; at = each clipped (wholes v) }
+unfoldable pub wholes_of : BodyVector → Result Vec3 Refusal
+wholes_of v = cond (finite v) (Ok (each clipped (wholes v))) (Err BodyNotFinite)
 
--- the refusal of a Moon and a Sun from the refusal of each: 10 of either comes before 11 of either
-unfoldable pub both_of : ℕ → ℕ → ℕ
-both_of v w = cond (eqb v 10) 10 (cond (eqb w 10) 10 (cond (eqb v 0) w v))
+-- what is seen of a body: its whole vector and the sum of its squares
+abbrev pub seen : Vec3 → Sight
+seen w = record { at = w; squares = squares w }
+
+-- or 11, out of reach
+unfoldable pub sight_of : ℕ → ℕ → Vec3 → Result Sight Refusal
+sight_of low high w = cond (between low high (length_of w)) (Ok (seen w)) (Err BodyDistance)
+
+-- a Moon and a Sun: 10 of either comes before 11 of either
+unfoldable pub sights_of : BodyVector → BodyVector → Result (Sight × Sight) Refusal
+sights_of v w =
+    cond (finite v && finite w) (cond (in_reach moon v && in_reach sun w) (Ok (seen (wholes v), seen (wholes w))) (Err BodyDistance)) (Err BodyNotFinite)

@@ -1,13 +1,13 @@
 -- The solid tide, in grains: the steps of degree two for each body and of degree three for the Moon, one definition each, and the Moon's plus the Sun's.
 use Rattle.std.specs.Prelude.{not, cond, ◌&&◌, [], ◌∷◌, ℕ, ◌*◌, eqb, ℤ, pos, ◌+ℤ◌, ◌-ℤ◌, ◌*ℤ◌}
 use Rattle.refusal.specs.Refusal.{Table, first}
+use Rattle.refusal.specs.Answered.{Answered}
 use Rattle.mark.specs.declared.Vec3.{Vec3}
 use Rattle.mark.specs.Mark.{vec, nowhere, length_of, marked}
 unfoldable pub use Rattle.mark.specs.Mark.{plus}
 use Rattle.tides.specs.declared.BodyVector.{BodyVector}
 use Rattle.tides.specs.declared.Body.{Body}
 use Rattle.tides.specs.declared.solid.Standing.{Standing}
-use Rattle.tides.specs.declared.Shift.{Shift}
 use Rattle.tides.specs.Direction.{E, times, units, legendre}
 use Rattle.tides.specs.Permanent.{latitude}
 use Rattle.tides.specs.Bodies.{Kind, moon, third_k0, sun, wholes, finite, in_reach, paired, moon_of, sun_of}
@@ -161,5 +161,5 @@ pair_checks a b = (17, not (paired a b)) ∷ body_checks (moon_of a b) (sun_of a
 unfoldable pub tide_number : Vec3 → Body → Body → ℕ
 tide_number m a b = first ((6, not (marked m)) ∷ pair_checks a b)
 
-unfoldable pub tide_answer : Vec3 → Body → Body → Shift
-tide_answer m a b = record { number = tide_number m a b; shift = cond (eqb (tide_number m a b) 0) (tide m (moon_of a b) (sun_of a b)) nowhere }
+unfoldable pub tide_answer : Vec3 → Body → Body → Answered Vec3
+tide_answer m a b = record { number = tide_number m a b; value = cond (eqb (tide_number m a b) 0) (tide m (moon_of a b) (sun_of a b)) nowhere }

@@ -5,116 +5,62 @@ ghost use Rattle.tides.specs.Steps as Y;
 use crate::BodyVector;
 use mark::Vec3;
 use numbers::Rounded;
+use refusal::Refusal;
 
 // The whole distance of the Moon in metres, and of the Sun in kilometres.
-pub const MOON_LEAST: u64 = 350000000;
+const MOON_LEAST: u64 = 350000000;
 
-pub const MOON_MOST: u64 = 410000000;
+const MOON_MOST: u64 = 410000000;
 
-pub const SUN_LEAST: u64 = 146000000;
+const SUN_LEAST: u64 = 146000000;
 
-pub const SUN_MOST: u64 = 153000000;
+const SUN_MOST: u64 = 153000000;
 
-// What is seen of a body: 10 not finite, 11 out of reach, else 0, its whole vector and the sum of its squares.
-#[derive(Clone, Copy)]
+// What is seen of a body: its whole vector and the sum of its squares.
+#[derive(Clone, Copy, Debug, PartialEq, Eq)]
 pub struct Sight {
-    pub number: u32,
     pub at: Vec3,
     pub squares: u64,
 }
 
-// A double as a whole number; past 2^30 in size it is 2^31.
-#[derive(Clone, Copy)]
-pub struct Coordinate {
-    pub finite: bool,
-    pub value: i64,
-}
-
-// Three of them.
-#[derive(Clone, Copy)]
-pub struct Wholes {
-    pub finite: bool,
-    pub at: Vec3,
-}
-
-// A double as a whole number, for a length that is asked to be below 2^30.
-pub fn whole_of(x: f64) -> Coordinate
+// A double as a whole number, for a length that is asked to be below 2^30: past 2^30 in size it is 2^31.
+pub fn whole_of(x: f64) -> Result<i64, Refusal>
     ensures { result ≡ Y.coordinate_of x }
 {
-    let w = numbers::whole(x);
-    match w {
-        Rounded::NotFinite => Coordinate {
-            finite: false,
-            value: 0,
-        },
-        Rounded::Far => Coordinate {
-            finite: true,
-            value: 2147483648,
-        },
-        Rounded::Number(z) => Coordinate {
-            finite: true,
-            value: z,
-        },
+    match numbers::whole(x) {
+        Rounded::NotFinite => Err(Refusal::BodyNotFinite),
+        Rounded::Far => Ok(2147483648),
+        Rounded::Number(z) => Ok(z),
     }
 }
 
 // The whole-number step of a body vector.
-pub fn wholes_of(v: BodyVector) -> Wholes
+pub fn wholes_of(v: BodyVector) -> Result<Vec3, Refusal>
     ensures { result ≡ Y.wholes_of v }
 {
-    let x = whole_of(v.x);
-    let y = whole_of(v.y);
-    let z = whole_of(v.z);
-    Wholes {
-        finite: x.finite && y.finite && z.finite,
-        at: Vec3 {
-            x: x.value,
-            y: y.value,
-            z: z.value,
-        },
-    }
+    Ok(Vec3 {
+        x: whole_of(v.x)?,
+        y: whole_of(v.y)?,
+        z: whole_of(v.z)?,
+    })
 }
 
-// A body that must lie from low to high, in its own unit.
-pub fn see(v: BodyVector, low: u64, high: u64) -> Sight
-    requires high_bound { high < 2 ^ 30 }
-    requires low_nonzero { 0 < low }
-    ensures { result ≡ Y.sight_of low high v }
+// A whole vector whose length must be from low to high, in its own unit.
+pub fn reach(at: Vec3, low: u64, high: u64) -> Result<Sight, Refusal>
+    requires { high < 2 ^ 30 }
+    ensures { result ≡ Y.sight_of low high at }
 {
-    let nowhere = Vec3 { x: 0, y: 0, z: 0 };
-    let p = wholes_of(v);
-    if !p.finite {
-        return Sight {
-            number: 10,
-            at: nowhere,
-            squares: 0,
-        };
-    }
-    let squares = mark::squares_within(p.at, low, high);
-    if squares == 0 {
-        return Sight {
-            number: 11,
-            at: nowhere,
-            squares: 0,
-        };
-    }
-    let at = p.at;
-    Sight {
-        number: 0,
-        at,
-        squares,
-    }
+    let squares = mark::squares_within(at, low, high).ok_or(Refusal::BodyDistance)?;
+    Ok(Sight { at, squares })
 }
 
-// The refusal of two bodies from the refusal of each: 10 of either before 11 of either.
-pub fn both(moon: u32, sun: u32) -> u32
-    ensures { result ≡ Y.both_of moon sun }
+// A Moon and a Sun: either not finite comes before either out of reach.
+pub fn see(moon: BodyVector, sun: BodyVector) -> Result<(Sight, Sight), Refusal>
+    ensures { result ≡ Y.sights_of moon sun }
 {
-    if moon == 10 {
-        return 10;
-    }
-    if sun == 10 {
-        return 10;
-    }
-    if moon == 0 { sun } else { moon }
+    let v = wholes_of(moon)?;
+    let w = wholes_of(sun)?;
+    let moon = reach(v, MOON_LEAST, MOON_MOST)?;
+    let sun = reach(w, SUN_LEAST, SUN_MOST)?;
+    Ok((moon, sun))
 }

@@ -6,6 +6,7 @@ ghost use Rattle.mark.specs.Ranges as G;
 ghost use Rattle.tides.specs.Aim as U;
 ghost use Rattle.tides.specs.Direction as D;
 ghost use Rattle.tides.specs.Permanent as P;
+ghost use Rattle.tides.specs.Steps as Y;
 
 use mark::Vec3;
 
@@ -58,11 +59,19 @@ pub fn legendre(s: i64) -> i64
     numbers::near(3 * s - 1073741824, 2)
 }
 
-// P of a mark, from its unit vector: uz is the sine of its latitude.
-pub fn latitude(u: Vec3) -> i64
-    requires { G.Within 1073741824 u }
-    ensures { result ≡ P.latitude u }
-{
-    let sine = u.z;
-    legendre(times(sine, sine))
+// A mark's unit vector u. Rounding has made it longer than E by a little at most.
+#[derive(Clone, Copy, Debug)]
+pub struct Direction {
+    pub u: Vec3,
+    ghost short: { Y.Direction u },
+}
+
+impl Direction {
+    // P of a mark: uz is the sine of its latitude.
+    pub fn latitude(self) -> i64
+        ensures { result ≡ P.latitude self.u }
+    {
+        let sine = self.u.z;
+        legendre(times(sine, sine))
+    }
 }

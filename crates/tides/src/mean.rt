@@ -1,16 +1,15 @@
 // The permanent shift, tide-free to mean-tide, from a unit vector.
 ghost use Rattle.std.specs.Prelude.{◌≡◌};
-ghost use Rattle.mark.specs.Ranges as G;
 ghost use Rattle.tides.specs.Permanent as P;
 
-use crate::direction::{legendre, times};
+use crate::direction::{Direction, legendre, times};
 use mark::Vec3;
 
-// The permanent shift at the unit vector u, in grains.
-pub fn permanent_of(u: Vec3) -> Vec3
-    requires { G.Within 1073741824 u }
-    ensures { result ≡ P.permanent_of u }
+// The permanent shift at a mark's direction, in grains.
+pub fn permanent_of(aim: Direction) -> Vec3
+    ensures { result ≡ P.permanent_of aim.u }
 {
+    let u = aim.u;
     let s = times(u.z, u.z);
     let p = legendre(s);
     let e = times(146100, p);

@@ -1,10 +1,6 @@
--- The lines of the parts passed stand in the text; the measure is what is left of the parts.
-use Rattle.std.proofs.Common.{length, ◌-◌}
+-- The lines of the parts passed stand in the text, and the iterator has the parts that are left.
 use Rattle.list.proofs.FillLaws.{Filled}
 use Rattle.list.proofs.fill.Given as goal
 
-abbrev pub invariant-loop-at : goal.invariant-loop-at
-invariant-loop-at l = Filled l.parts l.initial.text l.text l.filled l.at
-
-abbrev pub decreases-loop-at : goal.decreases-loop-at
-decreases-loop-at l = length l.parts - l.at
+abbrev pub invariant-loop-part : goal.invariant-loop-part
+invariant-loop-part l = Filled l.parts l.initial.text l.text l.filled l.part-iterator.size l.part-iterator.rest.now

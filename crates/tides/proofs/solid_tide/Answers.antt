@@ -1,95 +1,75 @@
--- `tides::solid_tide` meets its contract. Assumes nothing.
-use mathlib.Core.Path.{◌≡◌, sym, ap, ap₂, ◌∙◌, subst⁻¹}
-use mathlib.Core.Bool.{true, false}
-use Prim.Native.Nat.{ℕ}
+-- The mark's direction, then the bodies, in either order.
+use Rattle.std.proofs.Common.{rules, ◌≡◌, sym, ap, ◌∙◌, Ok, Err}
+use mathlib.Core.Path.{ap₂}
 use Rattle.refusal.specs.Refusal.{first}
+use Rattle.refusal.specs.declared.Refusal.{Refusal}
+use Rattle.refusal.specs.declared.Refusal.TheVariants.{BodyPair}
+use Rattle.refusal.specs.Answered.{answered}
 use Rattle.mark.specs.declared.Vec3.{Vec3}
-use Rattle.mark.specs.Mark.{length_of, mark_length, marked}
-use Rattle.mark.proofs.MarkLaws.{unmarked, accepted, accepted-length}
+use Rattle.mark.specs.Mark.{nowhere}
+use Rattle.mark.proofs.MarkLaws.{number-unmarked}
 use Rattle.tides.specs.declared.BodyVector.{BodyVector}
 use Rattle.tides.specs.declared.Body.{Body}
 use Rattle.tides.specs.declared.Body.TheVariants.{Moon, Sun}
-use Rattle.tides.specs.Direction.{units}
 use Rattle.tides.specs.Bodies.{paired, moon_of, sun_of}
 use Rattle.tides.specs.Tide.{tide, bodies_number, tide_number, tide_answer}
-use Rattle.tides.specs.Aim.{pair_answer}
-use Rattle.tides.specs.Steps.{refused_with, Direction}
-use Rattle.tides.proofs.PermanentLaws.{accepted-wide, accepted-direction}
+use Rattle.tides.specs.Aim.{aim_of, pair_answer}
+use Rattle.tides.proofs.AimLaws.{aim-marked, aim-unmarked, aim-number, aim-is, aim-direction}
 use Rattle.tides.proofs.BodyLaws.{either_order}
 use Rattle.tides.proofs.solid_tide.Goals as goal
 
 -- ---- the answers
 
-no-mark : (m : Vec3) (a b : Body) → marked m ≡ false → refused_with 6 ≡ tide_answer m a b
+no-mark : (m : Vec3) (a b : Body) (e : Refusal) → answered nowhere (Err e) ≡ aim_of m → answered nowhere (Err e) ≡ tide_answer m a b
 unfolding tide_answer tide_number first
-no-mark m a b e = rw e
+no-mark m a b e h =
+    let k = aim-unmarked m e h in
+    rw (aim-number m e h, number-unmarked m k, k)
 
-module _ (m : Vec3) (e : marked m ≡ true) where
-  two-moons : (v w : BodyVector) → refused_with 17 ≡ tide_answer m (Moon v) (Moon w)
+module _ (m u : Vec3) (h : answered nowhere (Ok u) ≡ aim_of m) where
+  two-moons : (v w : BodyVector) → answered nowhere (Err BodyPair) ≡ tide_answer m (Moon v) (Moon w)
   unfolding tide_answer tide_number paired first
-  two-moons v w = rw e
+  two-moons v w = rw (aim-marked m u h)
 
-  two-suns : (v w : BodyVector) → refused_with 17 ≡ tide_answer m (Sun v) (Sun w)
+  two-suns : (v w : BodyVector) → answered nowhere (Err BodyPair) ≡ tide_answer m (Sun v) (Sun w)
   unfolding tide_answer tide_number paired first
-  two-suns v w = rw e
+  two-suns v w = rw (aim-marked m u h)
 
-  in_order : (v w : BodyVector) → pair_answer (units (length_of m) m) v w ≡ tide_answer m (Moon v) (Sun w)
+  in_order : (v w : BodyVector) → pair_answer u v w ≡ tide_answer m (Moon v) (Sun w)
   unfolding pair_answer bodies_number tide_answer tide_number tide paired moon_of sun_of first
-  in_order v w = rw e
+  in_order v w = rw (aim-marked m u h, aim-is m u h)
 
--- ---- past the mark's check
+pub returns-in_err-u : goal.returns-in_err-u
+returns-in_err-u c =
+    let r = c.in_err-u.field-0.0 in
+    let e : c.from_residual.result ≡ Err r = search rules in
+    ap (answered nowhere) e ∙ no-mark c.args.m c.args.first c.args.second r c.in_err-u.ensures
 
--- what the mark's length is known to be where it is not 0
-module _ (m : Vec3) (l : ℕ) (f : l ≡ mark_length m) (n : l ≡ 0 → ⊥) where
-  mark-in : marked m ≡ true
-  mark-in = accepted m (λ e. n (f ∙ e))
+pub invariant_of-aim : goal.invariant_of-aim
+invariant_of-aim c = record { short = aim-direction c.args.m c.in_ok-u.u c.in_ok-u.ensures }
 
-  unit-is : (u : Vec3) → u ≡ units l m → u ≡ units (length_of m) m
-  unit-is u e = e ∙ ap (λ (k : ℕ). units k m) (f ∙ accepted-length m mark-in)
+pub invariant_of-aim-in-Sun-Moon : goal.invariant_of-aim-in-Sun-Moon
+invariant_of-aim-in-Sun-Moon c = record { short = aim-direction c.args.m c.in_ok-u.u c.in_ok-u.ensures }
 
-  directed : (u : Vec3) → u ≡ units l m → Direction u
-  directed u e = subst⁻¹ Direction (unit-is u e) (accepted-direction m mark-in)
+pub returns-in-Moon-Sun : goal.returns-in-Moon-Sun
+returns-in-Moon-Sun c =
+    let b = c.in-Moon-Sun in
+    c.pair_tide.ensures ∙ in_order c.args.m c.in_ok-u.u c.in_ok-u.ensures b.v b.w ∙ sym (ap₂ (tide_answer c.args.m) b.is-0 b.is-1)
 
-pub returns-then-l-eq0 : goal.returns-then-l-eq0
-returns-then-l-eq0 c =
-    c.refused.ensures ∙ no-mark c.args.m c.args.first c.args.second (unmarked c.args.m (sym c.length_of-l.ensures ∙ c.if-l-eq0.true))
+pub returns-in-Sun-Moon : goal.returns-in-Sun-Moon
+returns-in-Sun-Moon c =
+    let b = c.in-Sun-Moon in
+    c.pair_tide-in-Sun-Moon.ensures
+    ∙ in_order c.args.m c.in_ok-u.u c.in_ok-u.ensures b.v b.w
+    ∙ either_order c.args.m (Moon b.v) (Sun b.w)
+    ∙ sym (ap₂ (tide_answer c.args.m) b.is-0 b.is-1)
 
-pub units-u-requires : goal.units-u-requires
-units-u-requires c = accepted-wide c.args.m (mark-in c.args.m c.length_of-l.result c.length_of-l.ensures c.if-l-eq0.false)
+pub returns-in-Moon-Moon : goal.returns-in-Moon-Moon
+returns-in-Moon-Moon c =
+    let b = c.in-Moon-Moon in
+    two-moons c.args.m c.in_ok-u.u c.in_ok-u.ensures b.field-0-0 b.field-0-1 ∙ sym (ap₂ (tide_answer c.args.m) b.is-0 b.is-1)
 
-pub pair_tide-requires : goal.pair_tide-requires
-pair_tide-requires c = directed c.args.m c.length_of-l.result c.length_of-l.ensures c.if-l-eq0.false c.units-u.result c.units-u.ensures
-
-pub pair_tide-requires-in-Moon-second-2 : goal.pair_tide-requires-in-Moon-second-2
-pair_tide-requires-in-Moon-second-2 c =
-    directed c.args.m c.length_of-l.result c.length_of-l.ensures c.if-l-eq0.false c.units-u.result c.units-u.ensures
-
--- the bodies as they were taken apart
-pub returns-in-Moon-second : goal.returns-in-Moon-second
-returns-in-Moon-second c =
-    c.refused-in-Moon-second.ensures
-    ∙ two-moons c.args.m (mark-in c.args.m c.length_of-l.result c.length_of-l.ensures c.if-l-eq0.false) c.in-Moon.v c.in-Moon-second.field-0
-    ∙ sym (ap₂ (tide_answer c.args.m) c.in-Moon.is c.in-Moon-second.is)
-
-pub returns-in-Sun-second : goal.returns-in-Sun-second
-returns-in-Sun-second c =
-    c.pair_tide.ensures
-    ∙ ap (λ (u : Vec3). pair_answer u c.in-Moon.v c.in-Sun-second.w)
-    (unit-is c.args.m c.length_of-l.result c.length_of-l.ensures c.if-l-eq0.false c.units-u.result c.units-u.ensures)
-    ∙ in_order c.args.m (mark-in c.args.m c.length_of-l.result c.length_of-l.ensures c.if-l-eq0.false) c.in-Moon.v c.in-Sun-second.w
-    ∙ sym (ap₂ (tide_answer c.args.m) c.in-Moon.is c.in-Sun-second.is)
-
-pub returns-in-Moon-second-2 : goal.returns-in-Moon-second-2
-returns-in-Moon-second-2 c =
-    c.pair_tide-in-Moon-second-2.ensures
-    ∙ ap (λ (u : Vec3). pair_answer u c.in-Moon-second-2.v c.in-Sun.w)
-    (unit-is c.args.m c.length_of-l.result c.length_of-l.ensures c.if-l-eq0.false c.units-u.result c.units-u.ensures)
-    ∙ in_order c.args.m (mark-in c.args.m c.length_of-l.result c.length_of-l.ensures c.if-l-eq0.false) c.in-Moon-second-2.v c.in-Sun.w
-    ∙ either_order c.args.m (Moon c.in-Moon-second-2.v) (Sun c.in-Sun.w)
-    ∙ sym (ap₂ (tide_answer c.args.m) c.in-Sun.is c.in-Moon-second-2.is)
-
-pub returns-in-Sun-second-2 : goal.returns-in-Sun-second-2
-returns-in-Sun-second-2 c =
-    c.refused-in-Sun-second-2.ensures
-    ∙ two-suns c.args.m (mark-in c.args.m c.length_of-l.result c.length_of-l.ensures c.if-l-eq0.false) c.in-Sun.w c.in-Sun-second-2.field-0
-    ∙ sym (ap₂ (tide_answer c.args.m) c.in-Sun.is c.in-Sun-second-2.is)
+pub returns-in-Sun-Sun : goal.returns-in-Sun-Sun
+returns-in-Sun-Sun c =
+    let b = c.in-Sun-Sun in
+    two-suns c.args.m c.in_ok-u.u c.in_ok-u.ensures b.field-0-0 b.field-0-1 ∙ sym (ap₂ (tide_answer c.args.m) b.is-0 b.is-1)

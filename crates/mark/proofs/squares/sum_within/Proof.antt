@@ -1,10 +1,11 @@
 -- `mark::squares::sum_within` meets its contract: no component is longer than the vector, so one past high settles it. Assumes nothing.
-use mathlib.Core.Path.{◌≡◌, sym, ◌∙◌, subst}
+use mathlib.Core.Path.{◌≡◌, sym, ◌∙◌, subst, ap}
 use Prim.Native.Nat.{ℕ, ◌+◌, ◌-◌, ◌*◌, ◌^◌, ◌≤◌, ◌<◌}
 use native.Mathlib.Nat.{mul-le-mul}
 use native.Mathlib.Omega.{arith}
 use borrow.Author.Rules.{rules}
 use lib.IntN.{nat_abs}
+use Rattle.std.specs.Prelude.{Some}
 use Rattle.algebra.proofs.Machine.{size_of}
 use Rattle.mark.specs.declared.Vec3.{Vec3}
 use Rattle.mark.specs.Mark.{squares}
@@ -87,7 +88,7 @@ returns-6 : tie.Need-returns
 returns-6 c =
     let a = c.before.before.before.before.before.before.before.before.before.before.before.args in
     let e = sum_is c.before.before in
-    e ∙ sym (squares-between a.low a.high a.v (subst (λ (n : ℕ). a.low * a.low ≤ n) e c.before.if-n-low.false) (subst (λ (n : ℕ). n ≤ a.high * (a.high + 2)) e c.if-high-n.false))
+    ap Some e ∙ sym (squares-between a.low a.high a.v (subst (λ (n : ℕ). a.low * a.low ≤ n) e c.before.if-n-low.false) (subst (λ (n : ℕ). n ≤ a.high * (a.high + 2)) e c.if-high-n.false))
 
 pub sum_within_spec : {M : Type 1} → statement M
 sum_within_spec =

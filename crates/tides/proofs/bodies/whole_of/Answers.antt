@@ -1,12 +1,9 @@
--- `tides::bodies::whole_of` meets its contract. Assumes nothing.
-use mathlib.Core.Path.{◌≡◌, refl, ap, ◌∙◌}
-use mathlib.Core.Bool.{Bool, true, false, cond}
-use Prim.Native.Nat.{◌^◌}
-use lib.Dec.{leb, lit<}
-use lib.IntN.{ℤ, pos, nat_abs}
-use lib.Ieee.{Float}
+-- A double by what it rounds to.
+use Rattle.std.proofs.Common.{◌≡◌, refl, ap, ◌∙◌, ◌^◌, Bool, true, false, cond, leb, ℤ, pos, nat_abs, Float, Result, Ok, Err}
+use lib.Dec.{lit<}
 use Rattle.algebra.proofs.Machine.{at, plain}
-use Rattle.tides.specs.declared.bodies.Coordinate.{Coordinate}
+use Rattle.refusal.specs.declared.Refusal.{Refusal}
+use Rattle.refusal.specs.declared.Refusal.TheVariants.{BodyNotFinite}
 use Rattle.tides.specs.Bodies.{is_number, number_of}
 use Rattle.tides.specs.Steps.{clipped, coordinate_of}
 use mir.Syntax.{w64}
@@ -17,21 +14,18 @@ use Rattle.numbers.specs.Whole.{Nearest, none, some, whole_of, Means, shown}
 use Rattle.numbers.proofs.WholeLaws.{means-shown}
 use Rattle.tides.proofs.bodies.whole_of.Goals as goal
 
-abbrev coordinate : Bool → ℤ → Coordinate
-coordinate f z = record { finite = f; value = z }
-
--- what is told of a double, as the coordinate that stands for it
-abbrev told : Rounded → Coordinate
-told NotFinite = coordinate false (pos 0)
-told Far = coordinate true (pos (2 ^ 31))
-told (Number z) = coordinate true z
+-- what is told of a double, as the number that stands for it
+abbrev told : Rounded → Result ℤ Refusal
+told NotFinite = Err BodyNotFinite
+told Far = Ok (pos (2 ^ 31))
+told (Number z) = Ok z
 
 -- past 2^30, or not
-told-some : (t : Bool) (z : ℤ) → told (cond t (Number z) Far) ≡ coordinate true (cond t z (pos (2 ^ 31)))
+told-some : (t : Bool) (z : ℤ) → told (cond t (Number z) Far) ≡ Ok (cond t z (pos (2 ^ 31)))
 told-some true z = refl
 told-some false z = refl
 
-told_is : (n : Nearest) → told (shown n) ≡ coordinate (is_number n) (clipped (number_of n))
+told_is : (n : Nearest) → told (shown n) ≡ cond (is_number n) (Ok (clipped (number_of n))) (Err BodyNotFinite)
 unfolding shown clipped
 told_is none = refl
 told_is (some z) = told-some (leb (nat_abs z) (2 ^ 30)) z
@@ -53,5 +47,5 @@ returns-in-Far c = from c.args.x Far c.in-Far.ensures
 
 pub returns-in-Number : goal.returns-in-Number
 returns-in-Number c =
-    ap (coordinate true) (near_told c.in-Number.z (whole_of c.args.x) c.in-Number.ensures)
+    ap Ok (near_told c.in-Number.z (whole_of c.args.x) c.in-Number.ensures)
     ∙ from c.args.x (Number c.in-Number.z) c.in-Number.ensures

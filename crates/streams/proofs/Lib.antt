@@ -1,0 +1,2 @@
+-- What those who read a stream in parts use.
+pub mod LeftLaws
