@@ -116,7 +116,7 @@ pub fn mean_added(c: Card) -> Result<Card, Refusal>
     ensures { S.settled c result ≡ L.step c L.mean_on }
 {
     c.check()?;
-    in_state(c, 0)?;
+    in_state(c, 0)?; // neither tide, and mean tide next
     let shift = tides::permanent(c.mark)?;
     retided(c, 1, plus(c.position, shift), c.solid)
 }
@@ -126,7 +126,7 @@ pub fn mean_taken(c: Card) -> Result<Card, Refusal>
     ensures { S.settled c result ≡ L.step c L.mean_off }
 {
     c.check()?;
-    in_state(c, 1)?;
+    in_state(c, 1)?; // mean tide, and neither next
     let shift = tides::permanent(c.mark)?;
     retided(c, 0, minus(c.position, shift), c.solid)
 }
@@ -136,7 +136,7 @@ pub fn solid_added(c: Card, first: Body, second: Body) -> Result<Card, Refusal>
     ensures { S.settled c result ≡ L.step c (L.solid_on first second) }
 {
     c.check()?;
-    in_state(c, 0)?;
+    in_state(c, 0)?; // neither tide, and solid tide next
     let v = tides::solid_tide(c.mark, first, second)?;
     retided(c, 2, plus(c.position, v), v)
 }
@@ -146,6 +146,6 @@ pub fn solid_taken(c: Card) -> Result<Card, Refusal>
     ensures { S.settled c result ≡ L.step c L.solid_off }
 {
     c.check()?;
-    in_state(c, 2)?;
+    in_state(c, 2)?; // solid tide, and neither next
     retided(c, 0, minus(c.position, c.solid), Vec3 { x: 0, y: 0, z: 0 })
 }

@@ -59,6 +59,13 @@ pub fn find_place(catalogue: &[u8], key: &[u8]) -> Result<usize, Refusal>
     Err(Refusal::NoSuchSite)
 }
 
+// Where that lookup's part begins, in bytes; refused, the catalogue's length.
+pub fn place_or_end(catalogue: &[u8], key: &[u8]) -> usize
+    ensures { result ≡ L.find_place catalogue.now key.now }
+{
+    find_place(catalogue, key).unwrap_or(catalogue.len())
+}
+
 // Checks a whole catalogue: the number of its cards, `CatalogueLength` with 0, or the first bad card's own refusal and its place, counted in cards from 0.
 pub fn check(catalogue: &[u8]) -> Result<usize, Refused>
     ensures { A.counted result ≡ W.check_answer catalogue.now }

@@ -35,6 +35,13 @@ impl Metres {
             z: 0.0,
         }
     }
+
+    // What the paper gives: the metres of an answer, three zeros beside a refusal.
+    pub fn or_zeros(answer: Result<Metres, Refusal>) -> Metres
+        ensures { result ≡ (A.answered M.no_metres answer).value }
+    {
+        answer.unwrap_or(Metres::zeros())
+    }
 }
 
 // Writes the field edition of a card: `Length` where the buffer has not exactly 48 bytes, then 2 to 9, then `TideState` with solid tide on.

@@ -21,6 +21,16 @@ pub struct Terms {
     pub b: Vec3,
 }
 
+impl Terms {
+    // What the paper gives: A and B of an answer, zeros beside a refusal.
+    pub fn or_zeros(answer: Result<Terms, Refusal>) -> Terms
+        ensures { result ≡ (A.answered F.no_terms answer).value }
+    {
+        let zero = Vec3 { x: 0, y: 0, z: 0 };
+        answer.unwrap_or(Terms { a: zero, b: zero })
+    }
+}
+
 // A and B of a frame at a mark, or `Frame`, then `Mark`.
 pub fn frame_terms(m: Vec3, frame: u8) -> Result<Terms, Refusal>
     ensures { A.answered F.no_terms result ≡ F.terms_answer frame m }

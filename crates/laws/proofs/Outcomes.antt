@@ -46,6 +46,15 @@ frame-code-one κs a z z' w w' p q i = (same p q i, w)
 pub metres-zeros-one : OneOutcome 0 field.Metres.zeros.Kinds.ps field.Metres.zeros.Kinds.r field.Metres.zeros.Reads.Learnt
 metres-zeros-one κs a z z' w w' p q i = (same p q i, w)
 
+pub vec3-or-zeros-one : OneOutcome 0 mark.Vec3.or_zeros.Kinds.ps mark.Vec3.or_zeros.Kinds.r mark.Vec3.or_zeros.Reads.Learnt
+vec3-or-zeros-one κs a z z' w w' p q i = (same p q i, w)
+
+pub terms-or-zeros-one : OneOutcome 0 frames.Terms.or_zeros.Kinds.ps frames.Terms.or_zeros.Kinds.r frames.Terms.or_zeros.Reads.Learnt
+terms-or-zeros-one κs a z z' w w' p q i = (same p q i, w)
+
+pub metres-or-zeros-one : OneOutcome 0 field.Metres.or_zeros.Kinds.ps field.Metres.or_zeros.Kinds.r field.Metres.or_zeros.Reads.Learnt
+metres-or-zeros-one κs a z z' w w' p q i = (same p q i, w)
+
 pub magnitude-one : OneOutcome 0 numbers.magnitude.Kinds.ps numbers.magnitude.Kinds.r numbers.magnitude.Reads.Learnt
 magnitude-one κs a z z' w w' p q i = (same p q i, w)
 
@@ -165,6 +174,9 @@ with-state-one κs a z z' w w' p q i = (same p q i, w)
 
 pub is-site-one : OneOutcome 1 head.is_site.Kinds.ps head.is_site.Kinds.r head.is_site.Reads.Learnt
 is-site-one κs a z z' w w' p q i = (same p q i, w)
+
+pub place-or-end-one : OneOutcome 2 catalogue.place_or_end.Kinds.ps catalogue.place_or_end.Kinds.r catalogue.place_or_end.Reads.Learnt
+place-or-end-one κs a z z' w w' p q i = (same p q i, w)
 
 pub find-place-one : OneOutcome 2 catalogue.find_place.Kinds.ps catalogue.find_place.Kinds.r catalogue.find_place.Reads.Learnt
 find-place-one κs a z z' w w' p q i = (Told.same (length a.0.now) z z' (same p q) i, w)

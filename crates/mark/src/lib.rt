@@ -25,6 +25,15 @@ pub struct Vec3 {
     pub z: i64,
 }
 
+impl Vec3 {
+    // What the paper gives: the numbers of an answer, three zeros beside a refusal.
+    pub fn or_zeros(answer: Result<Vec3, Refusal>) -> Vec3
+        ensures { result ≡ (A.answered M.nowhere answer).value }
+    {
+        answer.unwrap_or(Vec3 { x: 0, y: 0, z: 0 })
+    }
+}
+
 // Refused as `Mark` where the mark's whole length is not from 6,300,000 to 6,400,000 metres.
 pub fn check_mark(m: Vec3) -> Result<(), Refusal>
     ensures { A.number result ≡ M.mark_number m }

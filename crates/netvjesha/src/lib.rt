@@ -229,7 +229,7 @@ pub extern "C" fn nv_check_catalogue(records: &[u8]) -> u64
 pub extern "C" fn nv_find(records: &[u8], key: &[u8]) -> usize
     ensures { result ≡ K.find_place records.now key.now }
 {
-    catalogue::find_place(records, key).unwrap_or(records.len())
+    catalogue::place_or_end(records, key)
 }
 
 // The number of that lookup: 2, then 14, then 15, and 0 when found.

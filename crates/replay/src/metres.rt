@@ -5,7 +5,7 @@ use field::Metres;
 pub fn answer(s: &[u8], out: &mut [u8]) -> usize {
     let answer = field::metres_out(records::raw_card(s));
     let mut end = text::put_natural(out, 0, refusal::number_of(answer) as u64);
-    let m = answer.unwrap_or(Metres::zeros());
+    let m = Metres::or_zeros(answer);
     for x in [m.x, m.y, m.z] {
         end = put_bits(out, end, bits_of(x));
     }

@@ -2,17 +2,14 @@
 use frames::Terms;
 use mark::Vec3;
 
-// What comes with a refusal.
-const ZEROS: Vec3 = Vec3 { x: 0, y: 0, z: 0 };
-
 pub fn answer_permanent(s: &[u8], out: &mut [u8]) -> usize {
     let shift = tides::permanent(layout::vector_at(s, 0, 8));
-    put_bare(out, shift.unwrap_or(ZEROS))
+    put_bare(out, Vec3::or_zeros(shift))
 }
 
 pub fn answer_rows(s: &[u8], out: &mut [u8]) -> usize {
     let answer = frames::frame_terms(layout::vector_at(s, 1, 8), wire::byte_at(s, 0));
-    let terms = answer.unwrap_or(Terms { a: ZEROS, b: ZEROS });
+    let terms = Terms::or_zeros(answer);
     let end = put_bare(out, terms.a);
     wire::put_vector(out, end, terms.b)
 }
@@ -22,7 +19,7 @@ pub fn answer_pair(s: &[u8], out: &mut [u8]) -> usize {
     let second = wire::body_at(s, 49);
     let shift = tides::solid_tide(layout::vector_at(s, 0, 8), first, second);
     let end = text::put_natural(out, 0, refusal::number_of(shift) as u64);
-    wire::put_vector(out, end, shift.unwrap_or(ZEROS))
+    wire::put_vector(out, end, Vec3::or_zeros(shift))
 }
 
 pub fn answer_series(s: &[u8], out: &mut [u8]) -> usize {

@@ -100,8 +100,9 @@ pub fn read<R: Read>(input: &mut R, space: &mut [u8]) -> io::Result<Option<Vecto
 
 // What a program answers to a vector.
 pub trait Answers {
-    // Puts the line of a payload of this kind, but for its end, to the start of a buffer, and answers its length.
-    fn put_answer(&self, kind: Kind, payload: &[u8], line: &mut [u8]) -> usize;
+    // Puts the line of a payload of this kind, but for its end, to the start of a buffer, and answers its length. The buffer is as long as it was.
+    fn put_answer(&self, kind: Kind, payload: &[u8], line: &mut [u8]) -> usize
+        ensures { length line.new ≡ length line.old };
 }
 
 // Answers each vector of a stream by a line, until no whole header is left. The error of a read or a write that fails is handed on.
@@ -120,19 +121,27 @@ pub fn answer_all<A: Answers, R: Read, W: Write>(
 struct Answering<'a, A>(&'a A);
 
 impl<A: Answers> Turn for Answering<'_, A> {
-    // Makes the vector's line in a buffer, and writes it at once.
     fn take<R: Read, W: Write>(&self, input: &mut R, output: &mut W) -> io::Result<bool> {
         let mut space = [0u8; MOST];
         let Some(vector) = read(input, &mut space)? else {
             return Ok(false);
         };
-        let payload = &space[..vector.length];
-        let mut line = [0u8; MOST];
-        let end = self.0.put_answer(vector.kind, payload, &mut line);
-        let whole = text::put_bytes(&mut line, end, b"\n");
-        output.write_all(first(&line, whole))?;
+        write_line(self.0, output, vector.kind, &space[..vector.length])?;
         Ok(true)
     }
+}
+
+// Makes a vector's line in a buffer, and writes it at once. The buffer stands in a function of its own: beside the payload's the compiler cleared it twice.
+fn write_line<A: Answers, W: Write>(
+    answers: &A,
+    output: &mut W,
+    kind: Kind,
+    payload: &[u8],
+) -> io::Result<()> {
+    let mut line = [0u8; MOST];
+    let end = answers.put_answer(kind, payload, &mut line);
+    let whole = text::put_bytes(&mut line, end, b"\n");
+    output.write_all(first(&line, whole))
 }
 
 // The lesser of a number read and a limit.

@@ -4,7 +4,7 @@ use Rattle.std.specs.Result.{result_unwrap_or}
 use Rattle.refusal.specs.declared.Refusal.{Refusal}
 use Rattle.refusal.specs.Answered.{answered}
 use Rattle.catalogue.specs.Lookup.{found}
-use Rattle.netvjesha.proofs.nv_find.Goals as goal
+use Rattle.catalogue.proofs.place_or_end.Goals as goal
 
 value : (z : ℕ) (r : Result ℕ Refusal) → result_unwrap_or r z ≡ (answered z r).value
 value z (Ok n) = refl
@@ -12,4 +12,4 @@ value z (Err e) = refl
 
 pub returns : goal.returns
 unfolding found
-returns c = c.unwrap_or.ensures ∙ value (length c.args.records.now) c.find_place.result ∙ ap (λ x. x.value) c.find_place.ensures
+returns c = c.unwrap_or.ensures ∙ value (length c.args.catalogue.now) c.find_place.result ∙ ap (λ x. x.value) c.find_place.ensures
